@@ -1,0 +1,4 @@
+pub mod Floors
+pub mod Products
+pub mod Quotients
+pub mod Roots

@@ -1,0 +1,9 @@
+pub mod Number
+pub mod Root
+pub mod Plain
+pub mod Ranges
+pub mod Written
+pub mod Steps
+pub mod Units
+pub mod Bench
+pub mod Listed

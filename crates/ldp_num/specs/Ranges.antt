@@ -1,0 +1,64 @@
+-- The range operations. A range is a pair of numbers, low ≤ high, that stands for all numbers between.
+-- (Own choice of this project; interval arithmetic, rounded down at both ends.)
+use Rattle.std.specs.Prelude.{◌≤ℤ◌, int_le, ℤ, pos, List, [], ◌∷◌, Option, Some, None, option_map, option_and_then, if◌then◌else◌}
+use Rattle.std.specs.Int.{int_min, int_max}
+use Rattle.ldp_num.specs.Number.{IsNumber}
+use Rattle.ldp_num.specs.Plain.{plain_add, plain_sub, plain_mul, plain_div, plain_sq, plain_sqrt, plain_need}
+
+pub record IsRange (low high : ℤ) : Type 0 where
+  pub low_number : IsNumber low
+  pub high_number : IsNumber high
+  pub ordered : low ≤ℤ high
+
+-- the two ends, where both are defined
+abbrev pub ends : Option ℤ → Option ℤ → Option (ℤ × ℤ)
+ends low high = option_and_then (λ l. option_map (λ h. (l, h)) high) low
+
+abbrev pub least : ℤ → List ℤ → ℤ
+least x [] = x
+least x (y ∷ ys) = int_min x (least y ys)
+
+abbrev pub greatest : ℤ → List ℤ → ℤ
+greatest x [] = x
+greatest x (y ∷ ys) = int_max x (greatest y ys)
+
+-- the values of a list, where all are defined
+abbrev pub all_defined : List (Option ℤ) → Option (List ℤ)
+all_defined [] = Some []
+all_defined (x ∷ xs) = option_and_then (λ v. option_map (λ vs. v ∷ vs) (all_defined xs)) x
+
+-- from the least to the greatest
+abbrev pub span : List ℤ → Option (ℤ × ℤ)
+span [] = None
+span (x ∷ xs) = Some (least x xs, greatest x xs)
+
+-- the least range that holds these corner results, where all are defined
+abbrev pub hull_of : List (Option ℤ) → Option (ℤ × ℤ)
+hull_of corners = option_and_then span (all_defined corners)
+
+abbrev pub pair_add : ℤ × ℤ → ℤ × ℤ → Option (ℤ × ℤ)
+pair_add a b = ends (plain_add a.0 b.0) (plain_add a.1 b.1)
+
+abbrev pub pair_sub : ℤ × ℤ → ℤ × ℤ → Option (ℤ × ℤ)
+pair_sub a b = ends (plain_sub a.0 b.1) (plain_sub a.1 b.0)
+
+abbrev pub pair_mul : ℤ × ℤ → ℤ × ℤ → Option (ℤ × ℤ)
+pair_mul a b =
+    hull_of (plain_mul a.0 b.0 ∷ plain_mul a.0 b.1 ∷ plain_mul a.1 b.0 ∷ plain_mul a.1 b.1 ∷ [])
+
+-- the divisor's low end is above 0
+abbrev pub pair_div : ℤ × ℤ → ℤ × ℤ → Option (ℤ × ℤ)
+pair_div a b =
+    hull_of (plain_div a.0 b.0 ∷ plain_div a.0 b.1 ∷ plain_div a.1 b.0 ∷ plain_div a.1 b.1 ∷ [])
+
+abbrev pub pair_sq : ℤ × ℤ → Option (ℤ × ℤ)
+pair_sq a =
+    if int_le (pos 0) a.0 then ends (plain_sq a.0) (plain_sq a.1)
+    else if int_le a.1 (pos 0) then ends (plain_sq a.1) (plain_sq a.0)
+    else option_map (λ r. (pos 0, r.1)) (hull_of (plain_sq a.0 ∷ plain_sq a.1 ∷ []))
+
+abbrev pub pair_sqrt : ℤ × ℤ → Option (ℤ × ℤ)
+pair_sqrt a = ends (plain_sqrt a.0) (plain_sqrt a.1)
+
+abbrev pub pair_need : ℤ × ℤ → Option (ℤ × ℤ)
+pair_need a = ends (plain_need a.0) (plain_need a.1)

@@ -1,0 +1,29 @@
+//! Fixed-point numbers, the carriers that run a formula, and the runs of a list of steps.
+//!
+//! A number is a whole n, at most 10^19 in absolute value, that stands for n / 10^15.
+#![tactic(auto)]
+
+mod bench;
+mod carrier;
+mod exact;
+mod fix;
+mod plain;
+mod product;
+mod quotient;
+mod root;
+mod step;
+mod units;
+
+pub use bench::Bench;
+pub use carrier::Num;
+pub use fix::Fix;
+pub use plain::{add, need, sub};
+pub use product::{mul, sq};
+pub use quotient::div;
+pub use root::sqrt;
+pub use std::alloc::AllocError as Memory;
+pub use step::Step;
+pub use units::{eta, radians};
+
+#[cfg(test)]
+mod tests;

@@ -1,0 +1,24 @@
+ghost use Rattle.std.specs.Prelude.{◌≡◌, ◌≤ℤ◌, pos, negsuc};
+ghost use Rattle.ldp_num.specs.Number.{IsNumber};
+ghost use Rattle.ldp_num.specs.Units.{radians_of, height_number};
+
+/// Pi in units of 10^-15, rounded down.
+const PI: i128 = 3_141_592_653_589_793;
+
+/// An angle of 10^-12 degrees in radians, in units of 10^-15, rounded down.
+pub fn radians(angle: i128) -> i128
+    requires low { negsuc 359999999999999 ≤ℤ angle }
+    requires high { angle ≤ℤ pos 360000000000000 }
+    ensures value { result ≡ radians_of angle }
+    ensures number { IsNumber result }
+{
+    (angle * PI).div_euclid(180_000_000_000_000)
+}
+
+/// A height of millimetres over the semi-major axis of GRS 80, in units of 10^-15, rounded down.
+pub fn eta(mm: i32) -> i128
+    ensures value { result ≡ height_number mm }
+    ensures number { IsNumber result }
+{
+    (i128::from(mm) * 1_000_000_000_000_000).div_euclid(6_378_137_000)
+}
