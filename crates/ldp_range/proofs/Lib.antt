@@ -1,0 +1,6 @@
+pub mod Orders
+pub mod Hulls
+pub mod Corners
+pub mod Casts
+pub mod Inclusion
+pub mod Sharpness

@@ -1,0 +1,33 @@
+use Rattle.ldp_range.proofs.Casts.{number-passed}
+use Rattle.ldp_range.proofs.Corners.{divided-is, divided-ordered}
+use Rattle.ldp_range.proofs.quotient.divided.Goals as goal
+
+pub paired-requires-clause-ordered : goal.paired-requires-clause-ordered
+paired-requires-clause-ordered c =
+    let a = number-passed c.args.lo c.requires.left.low_number in
+    let b = number-passed c.args.hi c.requires.left.high_number in
+    let d = number-passed c.args.low c.requires.right.low_number in
+    let e = number-passed c.args.high c.requires.right.high_number in
+    let f = number-passed c.by_sign.result c.by_sign.ensures.number in
+    let g = number-passed c.by_sign-2.result c.by_sign-2.ensures.number in
+    let first = rw (a, f) at c.div.ensures.value in
+    let last = rw (b, g) at c.div-2.ensures.value in
+    let s = rw (a, d, e) at c.by_sign.ensures.value in
+    let t = rw (b, d, e) at c.by_sign-2.ensures.value in
+    rw (first, last, s, t)
+    (divided-ordered c.args.lo c.args.hi c.args.low c.args.high c.requires.left.ordered c.requires.right.ordered c.requires.sign)
+
+pub returns : goal.returns
+returns c =
+    let a = number-passed c.args.lo c.requires.left.low_number in
+    let b = number-passed c.args.hi c.requires.left.high_number in
+    let d = number-passed c.args.low c.requires.right.low_number in
+    let e = number-passed c.args.high c.requires.right.high_number in
+    let f = number-passed c.by_sign.result c.by_sign.ensures.number in
+    let g = number-passed c.by_sign-2.result c.by_sign-2.ensures.number in
+    let first = rw (a, f) at c.div.ensures.value in
+    let last = rw (b, g) at c.div-2.ensures.value in
+    let s = rw (a, d, e) at c.by_sign.ensures.value in
+    let t = rw (b, d, e) at c.by_sign-2.ensures.value in
+    rw (c.paired.ensures, first, last, s, t)
+    (divided-is c.args.lo c.args.hi c.args.low c.args.high c.requires.left.ordered c.requires.right.ordered c.requires.sign)
