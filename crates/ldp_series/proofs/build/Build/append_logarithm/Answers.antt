@@ -1,0 +1,10 @@
+use Rattle.ldp_series.specs.Formula.{then}
+use Rattle.ldp_series.specs.Series.{logarithm}
+use Rattle.ldp_series.proofs.build.Build.append_logarithm.Goals as goal
+
+pub returns-clause-ok : goal.returns-clause-ok
+unfolding logarithm
+returns-clause-ok c =
+    then _ _ _ _ _ _ c.in_ok-r.ensures.ok
+    (then _ _ _ _ _ _ c.in_ok-y.ensures.ok
+    (then _ _ _ _ _ _ c.in_ok-series.ensures.ok (then _ _ _ _ _ _ c.in_ok-factor.ensures.ok c.in_ok-place.ensures.ok)))

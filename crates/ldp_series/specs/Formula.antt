@@ -1,0 +1,70 @@
+-- How a formula is written as steps: an expression appends its left operand's steps, then its right operand's, then its
+-- own step; a name stands for a place and appends nothing; a number appends a constant at each use.
+-- (Own choice of this project.)
+use Rattle.std.specs.Prelude.{◌≡◌, ℕ, ◌*◌, ℤ, pos, ◌++◌, [], ◌∷◌, length}
+use Rattle.std.proofs.Common.{ap, ◌∙◌}
+use Rattle.ldp_num.specs.Number.{one}
+use Rattle.ldp_num.specs.declared.step.Step.{Step}
+use Rattle.ldp_num.specs.declared.step.Step.TheVariants.{Const, Add, Sub, Mul, Div, Sq, Sqrt, Need}
+use Rattle.ldp_series.specs.Draft.{Draft, Formula}
+
+-- one step, at the place after all steps so far
+abbrev pub step : Step → Formula ℕ
+step s draft = (record { inputs = draft.inputs; steps = draft.steps ++ s ∷ [] }, length draft.steps)
+
+-- nothing is appended, and this is answered
+abbrev pub answer : {A : Type 0} → A → Formula A
+answer a draft = (draft, a)
+
+-- first one formula, then the next with the answer of the first
+infixl 10 ◌>>=◌
+unfoldable pub ◌>>=◌ : {A B : Type 0} → Formula A → (A → Formula B) → Formula B
+(first >>= next) draft = let made = first draft in next made.1 made.0
+
+-- A formula goes call by call: where the first makes this draft and answer, the whole makes what the rest makes of them.
+pub then : {A B : Type 0} (first : Formula A) (next : A → Formula B) (old mid : Draft) (a : A) (made : Draft × B)
+    → (mid, a) ≡ first old → made ≡ next a mid → made ≡ (first >>= next) old
+unfolding ◌>>=◌
+then first next old mid a made h k = k ∙ ap (λ m. next m.1 m.0) h
+
+abbrev pub name : ℕ → Formula ℕ
+name place = answer place
+
+abbrev pub units : ℤ → Formula ℕ
+units v = step (Const v)
+
+abbrev pub whole : ℕ → Formula ℕ
+whole v = units (pos (v * one))
+
+abbrev pub of_one : (ℕ → Step) → Formula ℕ → Formula ℕ
+of_one operation a = do
+  x ← a
+  step (operation x)
+
+abbrev pub of_two : (ℕ → ℕ → Step) → Formula ℕ → Formula ℕ → Formula ℕ
+of_two operation a b = do
+  x ← a
+  y ← b
+  step (operation x y)
+
+abbrev pub plus : Formula ℕ → Formula ℕ → Formula ℕ
+plus = of_two Add
+
+abbrev pub minus : Formula ℕ → Formula ℕ → Formula ℕ
+minus = of_two Sub
+
+abbrev pub times : Formula ℕ → Formula ℕ → Formula ℕ
+times = of_two Mul
+
+abbrev pub over : Formula ℕ → Formula ℕ → Formula ℕ
+over = of_two Div
+
+abbrev pub square : Formula ℕ → Formula ℕ
+square = of_one Sq
+
+abbrev pub square_root : Formula ℕ → Formula ℕ
+square_root = of_one Sqrt
+
+-- the domain of a formula: this is at least 0
+abbrev pub at_least_zero : Formula ℕ → Formula ℕ
+at_least_zero = of_one Need

@@ -1,0 +1,5 @@
+pub mod Draft
+pub mod Formula
+pub mod Series
+pub mod StepList
+pub mod Shape
