@@ -1,0 +1,48 @@
+ghost use Rattle.std.specs.Prelude.{◌≡◌, ◌+◌, ◌<◌, ◌≤◌, length, IfOk};
+ghost use Rattle.ldp_series.specs.Draft.{Added};
+ghost use Rattle.ldp_series.specs.Shape.{HasShape};
+ghost use Rattle.ldp_lambert.specs.Lambert.{within_domain, joint_list};
+
+use ldp_series::{Build, List, Memory};
+use std::alloc::Global;
+
+/// One, in units of 10^-15.
+const ONE: i128 = 1_000_000_000_000_000;
+
+/// 1/4, in units of 10^-15: the greatest square of a difference of isometric latitudes.
+const DOMAIN: i128 = 250_000_000_000_000;
+
+pub(crate) fn joint_list(alloc: Global) -> Result<List, Memory>
+    ensures exact { IfOk result (λ list. list ≡ joint_list) }
+    ensures shape { IfOk result (HasShape 7 1) }
+{
+    let mut build = Build::new(alloc, 7)?;
+    let (n, q1, m1, scale) = (0, 1, 2, 3);
+    let (m, q, factor) = (4, 5, 6);
+    let d = build.sub(q1, q)?;
+    let _within = within_domain(&mut build, d)?;
+    let x = build.mul(n, d)?;
+    let y = build.exp(x)?;
+    let ratio = build.div(m1, m)?;
+    let scaled = build.mul(scale, ratio)?;
+    let k = build.mul(scaled, y)?;
+    let product = build.mul(k, factor)?;
+    let one = build.constant(ONE)?;
+    let distortion = build.sub(product, one)?;
+    let list = build.finish(&[distortion])?;
+    Ok(list)
+}
+
+/// The stated domain: 4 steps.
+fn within_domain(build: &mut Build, d: u16) -> Result<u16, Memory>
+    requires d { d < length build.old.steps }
+    requires room { length build.old.steps + 4 ≤ 4096 }
+    ensures ok { IfOk result (λ place. (build.new, place) ≡ within_domain d build.old) }
+    ensures added { IfOk result (Added 4 build.old build.new) }
+{
+    let domain = build.constant(DOMAIN)?;
+    let square = build.sq(d)?;
+    let rest = build.sub(domain, square)?;
+    let within = build.need(rest)?;
+    Ok(within)
+}
