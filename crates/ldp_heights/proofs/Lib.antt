@@ -1,0 +1,4 @@
+mod Runs
+mod Values
+mod Pairs
+mod Fronts

@@ -1,0 +1,48 @@
+ghost use Rattle.std.specs.Prelude.{◌≡◌, nat_le, IfOk, if◌then◌else◌};
+ghost use Rattle.std.specs.List.{list_all};
+ghost use Rattle.std.specs.Char.{is_ascii_digit};
+ghost use Rattle.ldp_decimal.specs.Grammar.{value};
+ghost use Rattle.ldp_heights.specs.Ranges.{IsCount};
+ghost use Rattle.ldp_heights.specs.Seen.{seen};
+ghost use Rattle.ldp_heights.specs.Header.{count_of};
+
+use crate::fault::HeightFault;
+use crate::tokens::Run;
+
+/// The most places of a grid, and so the most rows and columns.
+pub const MOST_PLACES: u32 = 4_000_000;
+
+/// A count of rows or columns.
+#[tactic(auto, unfolding(crate::specs::Header::count_of))]
+pub fn read_count(run: &Run<'_>) -> Result<u32, HeightFault>
+    ensures value { result ≡ count_of (seen run.now) }
+    ensures range { IfOk result IsCount }
+{
+    if !are_digits(run.bytes) {
+        return Err(HeightFault::BadNumber(run.place));
+    }
+    match digits_value(run.bytes) {
+        Some(n) if n >= 1 => Ok(n),
+        _ => Err(HeightFault::OutOfRange(run.place)),
+    }
+}
+
+fn are_digits(bytes: &[u8]) -> bool
+    ensures { result ≡ list_all is_ascii_digit bytes.now }
+{
+    bytes.iter().all(|byte| byte.is_ascii_digit())
+}
+
+/// The number that digits stand for, if it is at most the most places.
+fn digits_value(digits: &[u8]) -> Option<u32>
+    ensures { result ≡ (if nat_le (value digits.now) 4_000_000 then Some (value digits.now) else None) }
+{
+    let mut value = 0;
+    for digit in digits {
+        value = value * 10 + u32::from(digit.saturating_sub(b'0'));
+        if value > MOST_PLACES {
+            return None;
+        }
+    }
+    Some(value)
+}

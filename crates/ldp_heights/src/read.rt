@@ -1,0 +1,72 @@
+ghost use Rattle.std.specs.Prelude.{◌≡◌, ◌≢◌, ◌*◌, ◌≤◌, length, All, IfOk, IfErr};
+ghost use Rattle.ldp_heights.specs.Grid.{IsHeight};
+ghost use Rattle.ldp_heights.specs.Ranges.{IsLayout};
+ghost use Rattle.ldp_heights.specs.Seen.{seen, ahead};
+ghost use Rattle.ldp_heights.specs.Reading.{height_of, heights_from, heights_of};
+
+use crate::class::{Class, class_of};
+use crate::fault::HeightFault;
+use crate::grid::Heights;
+use crate::header::{Layout, read_header};
+use crate::tokens::{Run, Tokens};
+use std::alloc::Global;
+
+/// Reads the text of an Esri ASCII grid whose heights are ellipsoid heights in metres, over degrees.
+#[tactic(auto, unfolding(crate::specs::Reading::heights_of, crate::specs::Reading::grid_of))]
+pub fn read_heights(alloc: Global, text: &[u8]) -> Result<Heights, HeightFault>
+    ensures exact { result ≢ Err HeightFault.Memory → result ≡ heights_of text.now }
+{
+    let mut tokens = Tokens::of_text(text);
+    let (header, first) = read_header(&mut tokens, text.len())?;
+    let layout = header.layout()?;
+    let heights = read_places(alloc, &layout, first, &mut tokens)?;
+    Ok(Heights::with_layout(&layout, heights))
+}
+
+/// The heights of all places, of which the first is at a run that was taken already.
+fn read_places<'a>(
+    alloc: Global,
+    layout: &Layout,
+    first: Option<Run<'a>>,
+    tokens: &mut Tokens<'a>,
+) -> Result<Vec<Option<i32>>, HeightFault>
+    requires { IsLayout layout.now }
+    ensures value { IfOk result (λ heights. heights_from layout.now.missing (layout.now.cols * layout.now.rows) 0 (ahead first.entry tokens.old) ≡ Ok heights.items) }
+    ensures fault { IfErr result (λ fault. fault ≢ HeightFault.Memory → heights_from layout.now.missing (layout.now.cols * layout.now.rows) 0 (ahead first.entry tokens.old) ≡ Err fault) }
+    ensures each_place { IfOk result (λ heights. length heights.items ≡ layout.now.cols * layout.now.rows) }
+    ensures range { IfOk result (λ heights. All IsHeight heights.items) }
+{
+    let places = (layout.cols * layout.rows) as usize;
+    let mut heights = Vec::with_capacity(alloc, places)?;
+    let mut next = first;
+    while let Some(run) = next {
+        if heights.len() == places {
+            return Err(HeightFault::Trailing(run.place));
+        }
+        let height = read_height(layout.missing, &run)?;
+        heights.push(height)?;
+        next = tokens.next();
+    }
+    if heights.len() < places {
+        return Err(HeightFault::TooFew(heights.len() as u32));
+    }
+    Ok(heights)
+}
+
+/// A height in millimetres, or None where its class is the missing one.
+#[tactic(auto, unfolding(crate::specs::Reading::height_of))]
+fn read_height(missing: Class, run: &Run<'_>) -> Result<Option<i32>, HeightFault>
+    ensures value { result ≡ height_of missing (seen run.now) }
+    ensures range { IfOk result IsHeight }
+{
+    let class = class_of(run.bytes).ok_or(HeightFault::BadNumber(run.place))?;
+    if class.is_same(missing) {
+        return Ok(None);
+    }
+    match class {
+        Class::Millimetres(millimetres) => Ok(Some(millimetres)),
+        Class::Nan => Err(HeightFault::BadNumber(run.place)),
+        Class::TooHigh => Err(HeightFault::OutOfRange(run.place)),
+        Class::TooLow => Err(HeightFault::OutOfRange(run.place)),
+    }
+}
