@@ -1,0 +1,10 @@
+use Rattle.std.proofs.Common.{◌≤◌}
+use Rattle.ldp_cells.specs.Regions.{test_of}
+use Rattle.ldp_cells.proofs.Sites.{CellsCounted}
+use Rattle.ldp_cells.proofs.choose.count_cells.Given as goal
+
+abbrev pub invariant-loop-place : goal.invariant-loop-place
+invariant-loop-place l = record {
+  counted : CellsCounted (test_of l.region) l.heights l.places l.place l.count;
+  few : l.count ≤ l.place;
+}

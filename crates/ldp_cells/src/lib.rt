@@ -1,0 +1,14 @@
+//! The cells of a zone: the places of a height grid that have a height and whose centre lies in the zone, in row order.
+#![tactic(auto)]
+
+mod cell;
+mod choose;
+mod fault;
+mod region;
+mod site;
+#[cfg(test)]
+mod tests;
+
+pub use cell::{Cell, Cells};
+pub use choose::{area_cells, zone_cells};
+pub use fault::CellsFault;

@@ -1,0 +1,6 @@
+mod Products
+mod Runs
+mod Walks
+mod Rings
+mod Sides
+mod Outside

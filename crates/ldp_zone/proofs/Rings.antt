@@ -1,0 +1,32 @@
+-- A ring that is found closed ends where it begins.
+use Rattle.std.proofs.Common.{◌≡◌, ◌-◌, Bool, true, false, ◌&&◌, ℤ, List, length, slice_get, Option, Some, None, refl, ap, ◌∙◌}
+use Rattle.std.specs.Ordering.{int_eq}
+use Rattle.std.proofs.lemmas.Bool.Decides.{Decides-int_eq}
+use Rattle.ldp_zone.specs.Inside.{same_point}
+use Rattle.ldp_zone.specs.Grammar.{same_ends, is_closed}
+use Rattle.ldp_zone.specs.declared.point.Point.{Point}
+
+left : (a b : Bool) → (a && b) ≡ true → a ≡ true
+left true b e = refl
+left false b e = absurd cc
+
+right : (a b : Bool) → (a && b) ≡ true → b ≡ true
+right true b e = e
+right false b e = absurd cc
+
+same : (p q : Point) → same_point p q ≡ true → p ≡ q
+same p q e =
+    let x : p.x ≡ q.x = (Decides-int_eq p.x q.x).0 (left (int_eq p.x q.x) (int_eq p.y q.y) e) in
+    let y : p.y ≡ q.y = (Decides-int_eq p.y q.y).0 (right (int_eq p.x q.x) (int_eq p.y q.y) e) in
+    let at_y : ℤ → Point = λ n. record { x = n; y = p.y } in
+    let at_x : ℤ → Point = λ n. record { x = q.x; y = n } in
+    ap at_y x ∙ ap at_x y
+
+ends : (a b : Option Point) → same_ends a b ≡ true → a ≡ b
+ends (Some p) (Some q) e = ap Some (same p q e)
+ends (Some p) None e = absurd cc
+ends None b e = absurd cc
+
+pub closed_ends : (ring : List Point) → is_closed ring ≡ true → slice_get ring 0 ≡ slice_get ring (length ring - 1)
+unfolding is_closed
+closed_ends ring e = ends (slice_get ring 0) (slice_get ring (length ring - 1)) e

@@ -1,0 +1,21 @@
+//! Zones: reads polygons of the Simple Features text, and tells whether a point lies in a zone.
+//!
+//! The text is that of OGC 06-103r4, over longitude and latitude in degrees; a point lies in a zone by the even-odd rule over all rings.
+#![tactic(auto)]
+
+mod edge;
+mod fault;
+mod point;
+mod product;
+mod read;
+mod reader;
+mod ring;
+mod spot;
+#[cfg(test)]
+mod tests;
+mod tokens;
+mod zone;
+
+pub use fault::ZoneFault;
+pub use read::read_zone;
+pub use zone::Zone;

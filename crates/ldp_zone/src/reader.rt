@@ -1,0 +1,409 @@
+ghost use Rattle.std.specs.Prelude.{◌≡◌, ◌≤◌, IfOk, unsigned_abs};
+ghost use Rattle.std.specs.Str.{str_eq_ignore_ascii_case};
+ghost use Rattle.ldp_decimal.specs.Reading.{decimal_of};
+ghost use Rattle.ldp_zone.specs.Area.{IsLongitude, IsLatitude};
+ghost use Rattle.ldp_zone.specs.Seen.{seen, Leaves, pending};
+ghost use Rattle.ldp_zone.specs.Grammar.{begin, geometry, opened, within_body, body, dimension, polygon, degrees, longitude, latitude, begun, first, ended, second, is_closed, ring_whole, point_end, is_number, height, third, behind_polygon, ring_end, polygon_end, step, finished};
+
+use crate::fault::ZoneFault;
+use crate::point::Point;
+use crate::ring::Ring;
+use crate::spot::Spot;
+use crate::tokens::{Sort, Word};
+use crate::zone::Zone;
+use ldp_decimal::{NumFault, read_decimal};
+use std::alloc::Global;
+use std::marker::Model;
+
+/// The greatest longitude: 360 degrees.
+const FULL_TURN: u64 = 360_000_000_000_000;
+
+/// The least longitude: -180 degrees.
+const WESTMOST: i128 = -180_000_000_000_000;
+
+/// The greatest latitude: 80 degrees.
+const NORTHMOST: u64 = 80_000_000_000_000;
+
+/// The most points of a zone.
+const MOST_POINTS: u32 = 10_000;
+
+/// A reader of a zone's tokens, seen as what was read so far.
+#[derive(Drop)]
+pub struct Reader {
+    spot: Spot,
+    multi: bool,
+    rings: Vec<Ring>,
+    ring: Vec<Point>,
+    x: i128,
+    count: u32,
+}
+
+impl Model for Reader {
+    ghost use Rattle.ldp_zone.specs.Grammar.{Progress};
+    ghost use Rattle.ldp_zone.specs.Seen.{IsProgress};
+
+    ghost Value = { Progress };
+
+    ghost view = { λ reader. record {
+      spot = reader.spot;
+      multi = reader.multi;
+      rings = reader.rings.items;
+      ring = reader.ring.items;
+      x = reader.x;
+      count = reader.count;
+    } };
+
+    ghost invariant = { λ reader. IsProgress record {
+      spot = reader.spot;
+      multi = reader.multi;
+      rings = reader.rings.items;
+      ring = reader.ring.items;
+      x = reader.x;
+      count = reader.count;
+    } };
+}
+
+impl Reader {
+    pub fn new(alloc: Global) -> Self
+        ensures { result ≡ begin }
+    {
+        Reader {
+            spot: Spot::Geometry,
+            multi: false,
+            rings: Vec::new(alloc),
+            ring: Vec::new(alloc),
+            x: 0,
+            count: 0,
+        }
+    }
+
+    /// Takes one token more.
+    #[tactic(auto, unfolding(crate::specs::Grammar::step))]
+    pub fn take(&mut self, token: &Word<'_>) -> Result<(), ZoneFault>
+        ensures { Leaves result self.new (step self.old (seen token.now)) }
+    {
+        match self.spot {
+            Spot::Geometry => self.geometry(token),
+            Spot::Dimension => self.dimension(token),
+            Spot::Body => self.body(token),
+            Spot::Polygon => self.polygon(token),
+            Spot::Ring => self.opened(Spot::First, token),
+            Spot::First => self.first(token),
+            Spot::Second => self.second(token),
+            Spot::Third => self.third(token),
+            Spot::PointEnd => self.point_end(token),
+            Spot::RingEnd => self.ring_end(token),
+            Spot::PolygonEnd => self.polygon_end(token),
+            Spot::End => Err(ZoneFault::Trailing(token.place)),
+        }
+    }
+
+    /// The zone, where the text of so many bytes may end.
+    #[tactic(auto, unfolding(crate::specs::Grammar::finished))]
+    pub fn finish(self, end: usize) -> Result<Zone, ZoneFault>
+        ensures { result ≡ finished end self }
+    {
+        let Reader {
+            spot,
+            multi: _,
+            rings,
+            ring: _,
+            x: _,
+            count: _,
+        } = self;
+        match spot {
+            Spot::End => Ok(Zone::new(rings)),
+            _ => Err(ZoneFault::NotAPolygon(end)),
+        }
+    }
+
+    /// The word of the geometry.
+    #[tactic(auto, unfolding(crate::specs::Grammar::geometry))]
+    fn geometry(&mut self, token: &Word<'_>) -> Result<(), ZoneFault>
+        ensures { Leaves result self.new (geometry self.old (seen token.now)) }
+    {
+        if is_word(token, b"POLYGON") {
+            self.multi = false;
+            self.spot = Spot::Dimension;
+        } else if is_word(token, b"MULTIPOLYGON") {
+            self.multi = true;
+            self.spot = Spot::Dimension;
+        } else if is_word(token, b"POLYGONZ") {
+            self.multi = false;
+            self.spot = Spot::Body;
+        } else if is_word(token, b"MULTIPOLYGONZ") {
+            self.multi = true;
+            self.spot = Spot::Body;
+        } else {
+            return Err(ZoneFault::NotAPolygon(token.place));
+        }
+        Ok(())
+    }
+
+    /// A `(`.
+    #[tactic(auto, unfolding(crate::specs::Grammar::opened))]
+    fn opened(&mut self, next: Spot, token: &Word<'_>) -> Result<(), ZoneFault>
+        requires { pending next ≡ 0 }
+        ensures { Leaves result self.new (opened next self.old (seen token.now)) }
+    {
+        match token.sort() {
+            Sort::Open => {
+                self.spot = next;
+                Ok(())
+            }
+            _ => Err(ZoneFault::NotAPolygon(token.place)),
+        }
+    }
+
+    /// The text of the geometry.
+    #[tactic(auto, unfolding(crate::specs::Grammar::body))]
+    fn body(&mut self, token: &Word<'_>) -> Result<(), ZoneFault>
+        ensures { Leaves result self.new (body self.old (seen token.now)) }
+    {
+        if is_word(token, b"EMPTY") {
+            self.spot = Spot::End;
+            return Ok(());
+        }
+        let next = if self.multi {
+            Spot::Polygon
+        } else {
+            Spot::Ring
+        };
+        self.opened(next, token)
+    }
+
+    /// An optional `Z`; a geometry with M values is refused.
+    #[tactic(auto, unfolding(crate::specs::Grammar::dimension))]
+    fn dimension(&mut self, token: &Word<'_>) -> Result<(), ZoneFault>
+        ensures { Leaves result self.new (dimension self.old (seen token.now)) }
+    {
+        if is_word(token, b"Z") {
+            self.spot = Spot::Body;
+            return Ok(());
+        }
+        if is_word(token, b"M") || is_word(token, b"ZM") {
+            return Err(ZoneFault::Measured(token.place));
+        }
+        self.body(token)
+    }
+
+    /// The text of a polygon in a multipolygon.
+    #[tactic(auto, unfolding(crate::specs::Grammar::polygon))]
+    fn polygon(&mut self, token: &Word<'_>) -> Result<(), ZoneFault>
+        ensures { Leaves result self.new (polygon self.old (seen token.now)) }
+    {
+        if is_word(token, b"EMPTY") {
+            self.spot = Spot::PolygonEnd;
+            return Ok(());
+        }
+        self.opened(Spot::Ring, token)
+    }
+
+    /// The first number of a point.
+    #[tactic(auto, unfolding(crate::specs::Grammar::first))]
+    fn first(&mut self, token: &Word<'_>) -> Result<(), ZoneFault>
+        requires { pending self.old.spot ≡ 0 }
+        ensures { Leaves result self.new (first self.old (seen token.now)) }
+    {
+        match token.sort() {
+            Sort::Run => self.begun(token),
+            _ => Err(ZoneFault::NotAPolygon(token.place)),
+        }
+    }
+
+    #[tactic(auto, unfolding(crate::specs::Grammar::begun))]
+    fn begun(&mut self, token: &Word<'_>) -> Result<(), ZoneFault>
+        requires { pending self.old.spot ≡ 0 }
+        ensures { Leaves result self.new (begun self.old (seen token.now)) }
+    {
+        if self.count >= MOST_POINTS {
+            return Err(ZoneFault::TooManyPoints);
+        }
+        let x = longitude(token)?;
+        self.x = x;
+        self.count += 1;
+        self.spot = Spot::Second;
+        Ok(())
+    }
+
+    /// The second number of a point.
+    #[tactic(auto, unfolding(crate::specs::Grammar::second))]
+    fn second(&mut self, token: &Word<'_>) -> Result<(), ZoneFault>
+        requires { pending self.old.spot ≡ 1 }
+        ensures { Leaves result self.new (second self.old (seen token.now)) }
+    {
+        match token.sort() {
+            Sort::Run => self.ended(token),
+            _ => Err(ZoneFault::NotAPolygon(token.place)),
+        }
+    }
+
+    #[tactic(auto, unfolding(crate::specs::Grammar::ended))]
+    fn ended(&mut self, token: &Word<'_>) -> Result<(), ZoneFault>
+        requires { pending self.old.spot ≡ 1 }
+        ensures { Leaves result self.new (ended self.old (seen token.now)) }
+    {
+        let y = latitude(token)?;
+        let x = self.x;
+        self.ring.push(Point { x, y })?;
+        self.spot = Spot::Third;
+        Ok(())
+    }
+
+    /// A third number, which is dropped, or what stands behind a point.
+    #[tactic(auto, unfolding(crate::specs::Grammar::third))]
+    fn third(&mut self, token: &Word<'_>) -> Result<(), ZoneFault>
+        requires { pending self.old.spot ≡ 0 }
+        ensures { Leaves result self.new (third self.old (seen token.now)) }
+    {
+        match token.sort() {
+            Sort::Run => self.height(token),
+            _ => self.point_end(token),
+        }
+    }
+
+    #[tactic(auto, unfolding(crate::specs::Grammar::height))]
+    fn height(&mut self, token: &Word<'_>) -> Result<(), ZoneFault>
+        ensures { Leaves result self.new (height self.old (seen token.now)) }
+    {
+        if !is_number(token.bytes) {
+            return Err(ZoneFault::BadNumber(token.place));
+        }
+        self.spot = Spot::PointEnd;
+        Ok(())
+    }
+
+    /// Behind a point.
+    #[tactic(auto, unfolding(crate::specs::Grammar::point_end))]
+    fn point_end(&mut self, token: &Word<'_>) -> Result<(), ZoneFault>
+        requires { pending self.old.spot ≡ 0 }
+        ensures { Leaves result self.new (point_end self.old (seen token.now)) }
+    {
+        match token.sort() {
+            Sort::Comma => {
+                self.spot = Spot::First;
+                Ok(())
+            }
+            Sort::Close => self.ring_whole(),
+            _ => Err(ZoneFault::NotAPolygon(token.place)),
+        }
+    }
+
+    /// The `)` of a ring.
+    #[tactic(auto, using(crate::proofs::Rings::closed_ends), unfolding(crate::specs::Grammar::ring_whole))]
+    fn ring_whole(&mut self) -> Result<(), ZoneFault>
+        requires { pending self.old.spot ≡ 0 }
+        ensures { Leaves result self.new (ring_whole self.old) }
+    {
+        if self.ring.len() < 4 {
+            return Err(ZoneFault::ShortRing(self.rings.len() as u32));
+        }
+        if !is_closed(&self.ring) {
+            return Err(ZoneFault::OpenRing(self.rings.len() as u32));
+        }
+        let alloc = *self.ring.allocator();
+        let points = std::mem::replace(&mut self.ring, Vec::new(alloc));
+        self.rings.push(Ring::new(points))?;
+        self.spot = Spot::RingEnd;
+        Ok(())
+    }
+
+    /// Behind a ring.
+    #[tactic(auto, unfolding(crate::specs::Grammar::ring_end))]
+    fn ring_end(&mut self, token: &Word<'_>) -> Result<(), ZoneFault>
+        ensures { Leaves result self.new (ring_end self.old (seen token.now)) }
+    {
+        match token.sort() {
+            Sort::Comma => {
+                self.spot = Spot::Ring;
+                Ok(())
+            }
+            Sort::Close => {
+                self.spot = if self.multi {
+                    Spot::PolygonEnd
+                } else {
+                    Spot::End
+                };
+                Ok(())
+            }
+            _ => Err(ZoneFault::NotAPolygon(token.place)),
+        }
+    }
+
+    /// Behind a polygon in a multipolygon.
+    #[tactic(auto, unfolding(crate::specs::Grammar::polygon_end))]
+    fn polygon_end(&mut self, token: &Word<'_>) -> Result<(), ZoneFault>
+        ensures { Leaves result self.new (polygon_end self.old (seen token.now)) }
+    {
+        match token.sort() {
+            Sort::Comma => {
+                self.spot = Spot::Polygon;
+                Ok(())
+            }
+            Sort::Close => {
+                self.spot = Spot::End;
+                Ok(())
+            }
+            _ => Err(ZoneFault::NotAPolygon(token.place)),
+        }
+    }
+}
+
+/// Whether a token is a word, in any case.
+fn is_word(token: &Word<'_>, word: &[u8]) -> bool
+    ensures { result ≡ str_eq_ignore_ascii_case token.now.bytes.now word.now }
+{
+    token.bytes.eq_ignore_ascii_case(word)
+}
+
+#[tactic(auto, unfolding(crate::specs::Grammar::degrees))]
+fn degrees(token: &Word<'_>, limit: u64) -> Result<i128, ZoneFault>
+    requires { limit ≤ 1_000_000_000_000_000 }
+    ensures value { result ≡ degrees limit (seen token.now) }
+    ensures range { IfOk result (λ n. unsigned_abs n ≤ limit) }
+{
+    match read_decimal(token.bytes, 12, i128::from(limit)) {
+        Ok(n) => Ok(n),
+        Err(NumFault::NotANumber) => Err(ZoneFault::BadNumber(token.place)),
+        Err(NumFault::TooLarge { negative: _ }) => Err(ZoneFault::OutOfRange(token.place)),
+    }
+}
+
+/// A longitude, in 10^-12 degrees.
+#[tactic(auto, unfolding(crate::specs::Grammar::longitude))]
+fn longitude(token: &Word<'_>) -> Result<i128, ZoneFault>
+    ensures value { result ≡ longitude (seen token.now) }
+    ensures range { IfOk result IsLongitude }
+{
+    let x = degrees(token, FULL_TURN)?;
+    if x < WESTMOST {
+        return Err(ZoneFault::OutOfRange(token.place));
+    }
+    Ok(x)
+}
+
+/// A latitude, in 10^-12 degrees.
+fn latitude(token: &Word<'_>) -> Result<i128, ZoneFault>
+    ensures value { result ≡ latitude (seen token.now) }
+    ensures range { IfOk result IsLatitude }
+{
+    degrees(token, NORTHMOST)
+}
+
+/// Whether a text is a number of any size.
+fn is_number(bytes: &[u8]) -> bool
+    ensures { result ≡ is_number (decimal_of 0 0 bytes.now) }
+{
+    !matches!(read_decimal(bytes, 0, 0), Err(NumFault::NotANumber))
+}
+
+/// Whether the last point of a ring is its first.
+#[tactic(auto, unfolding(crate::specs::Grammar::is_closed))]
+fn is_closed(ring: &[Point]) -> bool
+    ensures { result ≡ is_closed ring.now }
+{
+    match (ring.first(), ring.last()) {
+        (Some(first), Some(last)) => first.is_same(last),
+        _ => false,
+    }
+}

@@ -1,0 +1,70 @@
+ghost use Rattle.std.specs.Prelude.{◌≡◌, false, All};
+ghost use Rattle.ldp_zone.specs.Inside.{ring_edges, edges_from};
+ghost use Rattle.ldp_zone.specs.Area.{IsNear, IsRing, IsPlace, is_in_area};
+ghost use Rattle.ldp_zone.specs.Walk.{walk};
+
+use crate::edge::Edge;
+use crate::point::Point;
+use std::marker::Model;
+
+/// A ring, seen as the list of its points, of which the last is the first.
+#[derive(Drop)]
+pub struct Ring {
+    points: Vec<Point>,
+}
+
+impl Model for Ring {
+    ghost use Rattle.std.specs.Prelude.{List};
+    ghost use Rattle.ldp_zone.specs.Area.{IsRing};
+    ghost use Rattle.ldp_zone.specs.declared.point.Point.{Point};
+
+    ghost Value = { List Point };
+
+    ghost view = { λ ring. ring.points.items };
+
+    ghost invariant = { λ ring. IsRing ring.points.items };
+}
+
+impl Ring {
+    pub fn new(points: Vec<Point>) -> Self
+        requires { IsRing points.items }
+        ensures { result ≡ points.items }
+    {
+        Ring { points }
+    }
+
+    /// Walks along the edges: None where a point lies on one of them; else whether an odd number of edges crosses the ray
+    /// from it to the east, those before this ring included.
+    pub fn walk(&self, at: &Point, odd: bool) -> Option<bool>
+        requires { IsPlace at.now }
+        ensures value { result ≡ walk at.now odd (ring_edges self.now) }
+        ensures outside { is_in_area at.now ≡ false → result ≡ Some odd }
+    {
+        match self.points.split_first() {
+            None => Some(odd),
+            Some((first, rest)) => walk(*first, rest, at, odd),
+        }
+    }
+}
+
+/// The walk along the edges from a point over those that follow it.
+fn walk(first: Point, rest: &[Point], at: &Point, odd: bool) -> Option<bool>
+    requires first { IsNear first }
+    requires rest { All IsNear rest.now }
+    requires at { IsPlace at.now }
+    ensures { result ≡ walk at.now odd (edges_from first rest.now) }
+{
+    let mut start = first;
+    let mut odd = odd;
+    for point in rest {
+        let edge = Edge { start, end: *point };
+        if edge.holds(at) {
+            return None;
+        }
+        if edge.crosses(at) {
+            odd = !odd;
+        }
+        start = *point;
+    }
+    Some(odd)
+}
