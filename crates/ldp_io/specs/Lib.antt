@@ -1,0 +1,9 @@
+pub mod Count
+pub mod FileShelf
+pub mod Folder
+pub mod MemoryShelf
+pub mod MemorySink
+pub mod NoFaultShelf
+pub mod NoFaultSink
+pub mod Shelf
+pub mod Sink

@@ -1,0 +1,16 @@
+-- What a write does to the bytes of a sink (own choice of this project).
+use Rattle.std.specs.Prelude.{◌≡◌, ℕ, List, ◌++◌, take, Option, option_map}
+use Rattle.ldp_io.specs.declared.sink.Wrote.{Wrote}
+use Rattle.ldp_io.specs.declared.sink.Wrote.TheVariants.{Took, Failed, Memory}
+
+-- A fact about the number of bytes that were taken, where some were.
+abbrev pub IfWrote : Wrote → (ℕ → Type 0) → Type 0
+IfWrote (Took n) P = P n
+IfWrote Failed P = Unit {0}
+IfWrote Memory P = Unit {0}
+
+-- The bytes grew by the front of the piece, as long as the answer says, and not at all where nothing was taken.
+abbrev pub Grows : Wrote → List ℕ → Option (List ℕ) → Option (List ℕ) → Type 0
+Grows (Took n) piece before now = now ≡ option_map (λ bytes. bytes ++ take n piece) before
+Grows Failed piece before now = now ≡ before
+Grows Memory piece before now = now ≡ before
