@@ -1,0 +1,7 @@
+mod Places
+mod NumberWords
+mod Writes
+mod Deltas
+mod Worsts
+mod CellLoop
+mod Told

@@ -1,0 +1,214 @@
+-- The worst of a list, cell by cell.
+use Rattle.std.proofs.Common.{◌≡◌, ℕ, suc, ◌+◌, map, ◌<◌, ◌≤◌, max, Bool, true, false, cond, length, add-zero, add-one, drop-cons, take, drop, ℤ, pos, nat_abs, List, [], ◌∷◌, arith, refl, sym, ap, ◌∙◌}
+use Rattle.std.proofs.lemmas.Bool.Decides.{nat_tests}
+use Rattle.std.proofs.lemmas.Bool.{lt-ltb}
+use Rattle.std.specs.Prelude.{Option, Some, None, option_map, nat_lt, ◌==◌, position, slice_get, if◌then◌else◌}
+use Rattle.std.proofs.lemmas.Option.{slice_get_within, get_or_from_slice_get}
+use Rattle.std.proofs.lemmas.List.{drop_all}
+use Rattle.std.specs.Option.{is_none}
+use Rattle.std.specs.List.{position_or_len}
+use Rattle.ldp_series.specs.StepList.{at_places}
+use Rattle.ldp_series.specs.declared.list.Lists.{Lists}
+use Rattle.ldp_num.specs.declared.fix.Fix.{Fix}
+use Rattle.ldp_num.specs.Written.{number_ops}
+use Rattle.ldp_num.specs.Steps.{results_of}
+use Rattle.ldp_cells.specs.declared.cell.Cell.{Cell}
+use Rattle.ldp_cli.specs.Distortion.{distortion, distortion_from, distortions, cell_inputs, numbers}
+use Rattle.ldp_cli.specs.Worst.{greatest, absolute_values, worst_at, worst_of}
+use Rattle.ldp_cli.specs.declared.distortion.Worst.{Worst}
+use Rattle.ldp_cli.specs.declared.distortion.Worst.TheVariants.{Is, Unusable}
+
+-- the worst, from the value and the cell so far, over what is left from this place on
+abbrev pub worst_from : ℕ → ℕ → ℕ → List (Option ℤ) → Worst
+worst_from value cell place [] = Is (pos value) cell
+worst_from value cell place (None ∷ more) = Unusable place
+worst_from value cell place (Some d ∷ more) =
+    if nat_lt value (nat_abs d) then worst_from (nat_abs d) place (place + 1) more
+    else worst_from value cell (place + 1) more
+
+-- the first place of the greatest
+abbrev first_greatest : List ℕ → ℕ → ℕ
+first_greatest values most = position_or_len (λ one. one == most) values
+
+-- the same at once: from the first undefined place, and the absolute values
+abbrev joined : ℕ → ℕ → ℕ → Option ℕ → List ℕ → Worst
+joined value cell place (Some at) values = Unusable (place + at)
+joined value cell place None values =
+    Is (pos (max value (greatest values)))
+    (if nat_lt value (greatest values) then place + first_greatest values (greatest values) else cell)
+
+first_here : (n most : ℕ) (values : List ℕ) → n ≡ most → first_greatest (n ∷ values) most ≡ 0
+first_here n most values e = let same : (n == most) ≡ true = grind (arith, nat_tests) in rw same refl
+
+first_later : (n most : ℕ) (values : List ℕ) → n < most → first_greatest (n ∷ values) most ≡ suc (first_greatest values most)
+first_later n most values h =
+    let other : (n == most) ≡ false = grind (arith, nat_tests) in
+    let one : 1 + first_greatest values most ≡ suc (first_greatest values most) = omega arith in
+    rw (other, one) refl
+
+pub when_true : {A : Type 0} (b : Bool) (x y : A) → b ≡ true → (if b then x else y) ≡ x
+when_true b x y h = rw h refl
+
+pub when_false : {A : Type 0} (b : Bool) (x y : A) → b ≡ false → (if b then x else y) ≡ y
+when_false b x y h = rw h refl
+
+same_worst : (m n c d : ℕ) → m ≡ n → c ≡ d → Is (pos m) c ≡ Is (pos n) d
+same_worst m n c d e h = ap (λ (k : ℕ). Is (pos k) c) e ∙ ap (Is (pos n)) h
+
+later_place : (place n g : ℕ) (values : List ℕ) → n < g
+    → place + 1 + first_greatest values g ≡ place + first_greatest (n ∷ values) (max n g)
+later_place place n g values h =
+    let most : g ≡ max n g = omega arith in
+    let below : n < max n g = omega arith in
+    let at : place + 1 + first_greatest values g ≡ place + suc (first_greatest values g) = omega arith in
+    at ∙ ap (λ (m : ℕ). place + suc (first_greatest values m)) most
+    ∙ ap (λ (k : ℕ). place + k) (sym (first_later n (max n g) values below))
+
+-- a value that is greater than the one so far
+rises : (best cell place n g : ℕ) (values : List ℕ) (later : Bool) → nat_lt n g ≡ later → best < n
+    → Is (pos (max n g)) (if nat_lt n g then place + 1 + first_greatest values g else place)
+    ≡ Is (pos (max best (max n g))) (if nat_lt best (max n g) then place + first_greatest (n ∷ values) (max n g) else cell)
+rises best cell place n g values true e h =
+    let below : n < g = grind (arith, nat_tests) in
+    let above : nat_lt best (max n g) ≡ true = lt-ltb best (max n g) (omega arith) in
+    same_worst _ _ _ _ (omega arith)
+    (when_true (nat_lt n g) _ _ e ∙ later_place place n g values below ∙ sym (when_true (nat_lt best (max n g)) _ _ above))
+rises best cell place n g values false e h =
+    let atmost : g ≤ n = grind (arith, nat_tests) in
+    let above : nat_lt best (max n g) ≡ true = lt-ltb best (max n g) (omega arith) in
+    let here : place + first_greatest (n ∷ values) (max n g) ≡ place =
+    ap (λ (k : ℕ). place + k) (first_here n (max n g) values (omega arith)) ∙ add-zero place in
+    same_worst _ _ _ _ (omega arith)
+    (when_false (nat_lt n g) _ _ e ∙ sym here ∙ sym (when_true (nat_lt best (max n g)) _ _ above))
+
+-- a value that is not
+stays : (best cell place n g : ℕ) (values : List ℕ) (later : Bool) → nat_lt best g ≡ later → n ≤ best
+    → Is (pos (max best g)) (if nat_lt best g then place + 1 + first_greatest values g else cell)
+    ≡ Is (pos (max best (max n g))) (if nat_lt best (max n g) then place + first_greatest (n ∷ values) (max n g) else cell)
+stays best cell place n g values true e h =
+    let over : best < g = grind (arith, nat_tests) in
+    let below : n < g = omega arith in
+    let above : nat_lt best (max n g) ≡ true = lt-ltb best (max n g) (omega arith) in
+    same_worst _ _ _ _ (omega arith)
+    (when_true (nat_lt best g) _ _ e ∙ later_place place n g values below ∙ sym (when_true (nat_lt best (max n g)) _ _ above))
+stays best cell place n g values false e h =
+    let atmost : g ≤ best = grind (arith, nat_tests) in
+    let most : max n g ≤ best = omega arith in
+    let test : nat_lt best (max n g) ≡ false = grind (arith, nat_tests) in
+    same_worst _ _ _ _ (omega arith)
+    (when_false (nat_lt best g) _ _ e ∙ sym (when_false (nat_lt best (max n g)) _ _ test))
+
+-- one more at the front
+next_by : (value cell place n : ℕ) (at : Option ℕ) (values : List ℕ) (greater : Bool) → nat_lt value n ≡ greater
+    → (if greater then joined n place (place + 1) at values else joined value cell (place + 1) at values)
+    ≡ joined value cell place (option_map suc at) (n ∷ values)
+next_by value cell place n (Some at) values true e = ap Unusable (omega arith)
+next_by value cell place n (Some at) values false e = ap Unusable (omega arith)
+next_by value cell place n None values true e =
+    rises value cell place n (greatest values) values (nat_lt n (greatest values)) refl (grind (arith, nat_tests))
+next_by value cell place n None values false e =
+    stays value cell place n (greatest values) values (nat_lt value (greatest values)) refl (grind (arith, nat_tests))
+
+place_by : (k l : ℕ) (within : Bool) → nat_lt k l ≡ within
+    → cond (nat_lt (1 + k) (suc l)) (Some (1 + k)) None ≡ option_map suc (cond (nat_lt k l) (Some k) None)
+place_by k l true e =
+    let test : nat_lt (1 + k) (suc l) ≡ true = grind (arith, nat_tests) in
+    let one : 1 + k ≡ suc k = omega arith in
+    rw (test, e) (ap Some one)
+place_by k l false e =
+    let test : nat_lt (1 + k) (suc l) ≡ false = grind (arith, nat_tests) in
+    rw (test, e) refl
+
+first_undefined : (d : ℤ) (more : List (Option ℤ)) → position is_none (Some d ∷ more) ≡ option_map suc (position is_none more)
+first_undefined d more =
+    place_by (position_or_len is_none more) (length more) (nat_lt (position_or_len is_none more) (length more)) refl
+
+first_here_undefined : (more : List (Option ℤ)) → position is_none (None ∷ more) ≡ Some 0
+first_here_undefined more = let test : nat_lt 0 (suc (length more)) ≡ true = lt-ltb 0 (suc (length more)) (omega arith) in rw test refl
+
+-- the worst cell by cell is the worst at once
+all_joined : (value cell place : ℕ) (ds : List (Option ℤ))
+    → worst_from value cell place ds ≡ joined value cell place (position is_none ds) (absolute_values ds)
+all_joined value cell place [] =
+    let over : max value 0 ≡ value = omega arith in
+    let test : nat_lt value 0 ≡ false = grind (arith, nat_tests) in
+    rw (over, test) refl
+all_joined value cell place (None ∷ more) =
+    let at : place ≡ place + 0 = omega arith in
+    ap Unusable at
+    ∙ ap (λ (o : Option ℕ). joined value cell place o (absolute_values (None ∷ more))) (sym (first_here_undefined more))
+all_joined value cell place (Some d ∷ more) =
+    rw (first_undefined d more, all_joined (nat_abs d) place (place + 1) more, all_joined value cell (place + 1) more)
+    (next_by value cell place (nat_abs d) (position is_none more) (absolute_values more) (nat_lt value (nat_abs d)) refl)
+
+zero_first : (values : List ℕ) → greatest values ≡ 0 → first_greatest values 0 ≡ 0
+zero_first [] h = refl
+zero_first (n ∷ values) h = first_here n 0 values (omega arith)
+
+begins_by : (at : Option ℕ) (values : List ℕ) (some : Bool) → nat_lt 0 (greatest values) ≡ some
+    → joined 0 0 0 at values ≡ worst_at at values
+begins_by (Some at) values some e = ap Unusable (omega arith)
+begins_by None values true e =
+    let most : max 0 (greatest values) ≡ greatest values = omega arith in
+    let at : 0 + first_greatest values (greatest values) ≡ first_greatest values (greatest values) = omega arith in
+    rw (most, e, at) refl
+begins_by None values false e =
+    let none : greatest values ≡ 0 = grind (arith, nat_tests) in
+    rw (none, zero_first values none) refl
+
+pub worst_from-is : (ds : List (Option ℤ)) → worst_from 0 0 0 ds ≡ worst_of ds
+unfolding worst_of
+worst_from-is ds =
+    all_joined 0 0 0 ds ∙ begins_by (position is_none ds) (absolute_values ds) (nat_lt 0 (greatest (absolute_values ds))) refl
+
+-- the distortions of the cells from one on
+abbrev pub left : (Cell → Option ℤ) → List Cell → ℕ → List (Option ℤ)
+left f cells at = map f (drop at cells)
+
+left_next : (f : Cell → Option ℤ) (cells : List Cell) (at : ℕ) (cell : Cell) → slice_get cells at ≡ Some cell
+    → left f cells at ≡ f cell ∷ left f cells (at + 1)
+left_next f cells at cell h =
+    let within : at < length cells = slice_get_within cells at cell h in
+    rw (add-one at, drop-cons cells at cell within, get_or_from_slice_get cells at cell cell h) refl
+
+pub left_undefined : (f : Cell → Option ℤ) (cells : List Cell) (value best at : ℕ) (cell : Cell) → slice_get cells at ≡ Some cell
+    → None ≡ f cell → worst_from value best at (left f cells at) ≡ Unusable at
+left_undefined f cells value best at cell h e = rw (left_next f cells at cell h, ← e) refl
+
+pub left_defined : (f : Cell → Option ℤ) (cells : List Cell) (value best at : ℕ) (cell : Cell) (d : ℤ) → slice_get cells at ≡ Some cell
+    → Some d ≡ f cell
+    → worst_from value best at (left f cells at)
+    ≡ (if nat_lt value (nat_abs d) then worst_from (nat_abs d) at (at + 1) (left f cells (at + 1))
+    else worst_from value best (at + 1) (left f cells (at + 1)))
+left_defined f cells value best at cell d h e = rw (left_next f cells at cell h, ← e) refl
+
+pub none_left : (f : Cell → Option ℤ) (cells : List Cell) (value best at : ℕ) → length cells ≤ at
+    → worst_from value best at (left f cells at) ≡ Is (pos value) best
+none_left f cells value best at h = rw (drop_all at cells h) refl
+
+-- the worst over cells, one after another
+pub over_cells : (f : Cell → Option ℤ) (cells : List Cell) → worst_from 0 0 0 (left f cells 0) ≡ worst_of (map f cells)
+over_cells f cells = worst_from-is (map f cells)
+
+-- where the design list has a value
+pub with_design : (lists : Lists) (design results : List ℤ) (outs : List ℕ) (inputs : List Fix) (cells : List Cell)
+    → results_of number_ops design lists.design.steps ≡ Some results → outs ≡ lists.design.outs → length lists.design.outs ≡ 2
+    → at_places results outs ≡ Some (numbers (take (length outs) (drop 0 inputs)))
+    → worst_of (map (λ cell. distortion_from lists (numbers (take 2 inputs)) (cell_inputs cell)) cells)
+    ≡ worst_of (distortions lists design cells)
+unfolding distortion
+with_design lists design results outs inputs cells h e two at =
+    let count : length outs ≡ 2 = ap length e ∙ two in
+    let at_two : at_places results lists.design.outs ≡ Some (numbers (take 2 inputs)) =
+    ap (at_places results) (sym e) ∙ at ∙ ap (λ (n : ℕ). Some (numbers (take n inputs))) count in
+    rw (h, at_two) refl
+
+-- where it has none, and there is a cell
+pub no_design : (lists : Lists) (design : List ℤ) (cells : List Cell) → results_of number_ops design lists.design.steps ≡ None
+    → 0 < length cells → Unusable 0 ≡ worst_of (distortions lists design cells)
+unfolding distortion
+no_design lists design [] h some = absurd (omega arith)
+no_design lists design (cell ∷ cells) h some =
+    let undefined : None ≡ distortion lists design (cell_inputs cell) = rw h refl in
+    sym (left_undefined (λ (one : Cell). distortion lists design (cell_inputs one)) (cell ∷ cells) 0 0 0 cell refl undefined)
+    ∙ over_cells (λ (one : Cell). distortion lists design (cell_inputs one)) (cell ∷ cells)
