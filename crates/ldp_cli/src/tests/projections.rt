@@ -161,3 +161,19 @@ fn single_points(rt: HostRuntime) -> Result<(), Fail> {
     }
     Ok(())
 }
+
+/// The numbers of steps, counted from the formulas.
+#[test]
+fn lengths_of_lists(rt: HostRuntime) -> Result<(), Fail> {
+    for (projection, cell, design, joint) in [
+        (Projection::TransverseMercator, 185, 4, 26),
+        (Projection::Lambert, 255, 249, 86),
+        (Projection::Hotine, 255, 417, 246),
+    ] {
+        let lists = lists_of(rt.alloc(), projection)?;
+        assert_eq!(rt; lists.cell.steps().len(), cell);
+        assert_eq!(rt; lists.design.steps().len(), design);
+        assert_eq!(rt; lists.joint.steps().len(), joint);
+    }
+    Ok(())
+}
