@@ -7,8 +7,9 @@ const NO_CELL: &str = "no cell\n";
 /// The central meridian of the command is far from each cell, so this is the line of a grid that is read.
 const READ: &str = "no usable design\n";
 
-/// Grids with one number at an end of its range or just past it, and the line of `eval`.
-const GRIDS: [(&str, &str); 26] = [
+/// Grids with one number at an end of its range or just past it, or a centre on a side of the area or just past it, and the line
+/// of `eval`.
+const GRIDS: [(&str, &str); 33] = [
     ("ncols 0", "refused heights OutOfRange 6\n"),
     ("ncols 1 nrows 1 xllcenter 0 yllcenter 0 cellsize 1 0", READ),
     (
@@ -97,6 +98,34 @@ const GRIDS: [(&str, &str); 26] = [
     (
         "ncols 1 nrows 1 xllcenter 0 yllcenter 0 cellsize 1 100000.0005",
         "refused heights OutOfRange 51\n",
+    ),
+    (
+        "ncols 1 nrows 1 xllcenter -180 yllcenter 0 cellsize 1 0",
+        READ,
+    ),
+    (
+        "ncols 1 nrows 1 xllcenter -180.000000000001 yllcenter 0 cellsize 1 0",
+        NO_CELL,
+    ),
+    (
+        "ncols 1 nrows 1 xllcorner 360 yllcenter 0 cellsize 2e-12 0",
+        NO_CELL,
+    ),
+    (
+        "ncols 1 nrows 1 xllcenter 0 yllcenter -80 cellsize 1 0",
+        READ,
+    ),
+    (
+        "ncols 1 nrows 1 xllcenter 0 yllcenter -80.000000000001 cellsize 1 0",
+        NO_CELL,
+    ),
+    (
+        "ncols 1 nrows 1 xllcenter 0 yllcenter 80 cellsize 1 0",
+        READ,
+    ),
+    (
+        "ncols 1 nrows 1 xllcenter 0 yllcenter 80.000000000001 cellsize 1 0",
+        NO_CELL,
     ),
 ];
 
