@@ -1,6 +1,6 @@
 -- A law of the carriers: the results of a formula over the lists that values mean are the lists that its results mean. So
 -- a run of carrier 0 is a run over numbers, and a run of carrier 1 is a run over pairs.
-use Rattle.std.specs.Prelude.{◌≡◌, ℕ, ℤ, List, [], ◌∷◌, ◌++◌, map, slice_get, Option, Some, None, option_map, option_and_then, refl}
+use Rattle.std.specs.Prelude.{◌≡◌, ℕ, Bool, true, false, ℤ, List, [], ◌∷◌, ◌++◌, map, slice_get, Option, Some, None, option_map, option_and_then, if◌then◌else◌, refl}
 use Rattle.std.proofs.Common.{◌∙◌, ap, sym}
 use Rattle.std.proofs.lemmas.Option.{slice_get-map}
 use Rattle.std.proofs.lemmas.List.{map-append}
@@ -81,3 +81,47 @@ plain_results inputs steps = results_listed plain_in plain_out (λ a. refl) numb
 pub pair_results : (inputs : List (ℤ × ℤ)) (steps : List Step)
     → results_of (written 1) (map pair_out inputs) steps ≡ option_map (map pair_out) (results_of range_ops inputs steps)
 pair_results inputs steps = results_listed pair_in pair_out (λ a. refl) range_ops inputs steps
+
+-- the values that lists mean, where each list means one
+abbrev back : {A : Type 0} → (List ℤ → Option A) → List (List ℤ) → Option (List A)
+back from [] = Some []
+back from (list ∷ lists) = option_and_then (λ a. option_map (λ values. a ∷ values) (back from lists)) (from list)
+
+back_out : {A : Type 0} (from : List ℤ → Option A) (out : A → List ℤ) → ((a : A) → from (out a) ≡ Some a)
+    → (values : List A) → back from (map out values) ≡ Some values
+back_out from out same [] = refl
+back_out from out same (a ∷ values) = rw (same a, back_out from out same values) refl
+
+back_of_results : {A : Type 0} (from : List ℤ → Option A) (out : A → List ℤ) → ((a : A) → from (out a) ≡ Some a)
+    → (results : Option (List A)) → option_and_then (back from) (option_map (map out) results) ≡ results
+back_of_results from out same None = refl
+back_of_results from out same (Some values) = back_out from out same values
+
+back_of_run : {A : Type 0} (from : List ℤ → Option A) (out : A → List ℤ) → ((a : A) → from (out a) ≡ Some a)
+    → (defined : Bool) (results : List A)
+    → option_and_then (back from) (if defined then Some (map out results) else None) ≡ (if defined then Some results else None)
+back_of_run from out same true results = back_out from out same results
+back_of_run from out same false results = refl
+
+-- over any values: what a run over their lists says of the values
+run_of_values : {A : Type 0} (from : List ℤ → Option A) (out : A → List ℤ) → ((a : A) → from (out a) ≡ Some a)
+    → (ops : Ops A) (inputs : List A) (steps : List Step) (defined : Bool) (results : List A)
+    → results_of (listed from out ops) (map out inputs) steps ≡ (if defined then Some (map out results) else None)
+    → results_of ops inputs steps ≡ (if defined then Some results else None)
+run_of_values from out same ops inputs steps defined results h =
+    sym (back_of_results from out same (results_of ops inputs steps))
+    ∙ ap (option_and_then (back from)) (sym (results_listed from out same ops inputs steps))
+    ∙ ap (option_and_then (back from)) h
+    ∙ back_of_run from out same defined results
+
+-- what a run of carrier 0 says of the numbers
+pub plain_run : (inputs : List ℤ) (steps : List Step) (defined : Bool) (results : List ℤ)
+    → results_of (written 0) (map plain_out inputs) steps ≡ (if defined then Some (map plain_out results) else None)
+    → results_of number_ops inputs steps ≡ (if defined then Some results else None)
+plain_run inputs steps defined results h = run_of_values plain_in plain_out (λ a. refl) number_ops inputs steps defined results h
+
+-- what a run of carrier 1 says of the pairs
+pub pair_run : (inputs : List (ℤ × ℤ)) (steps : List Step) (defined : Bool) (results : List (ℤ × ℤ))
+    → results_of (written 1) (map pair_out inputs) steps ≡ (if defined then Some (map pair_out results) else None)
+    → results_of range_ops inputs steps ≡ (if defined then Some results else None)
+pair_run inputs steps defined results h = run_of_values pair_in pair_out (λ a. refl) range_ops inputs steps defined results h
