@@ -4,3 +4,6 @@ mod Walks
 mod Rings
 mod Sides
 mod Outside
+mod Phrases
+mod Resumed
+mod Agreement

@@ -1,136 +1,101 @@
--- Reading the text of a zone: the polygon or multipolygon of OGC 06-103r4 ("Well-known Text Representation for Geometry"),
--- read from left to right. A geometry is its word and a text; the text of a polygon is EMPTY, or rings in parentheses; a
--- ring is points in parentheses; a point is two or three numbers. Each definition below says what may stand at one spot of
--- the text, and where the reading stands after it. The first token that does not fit is the fault.
--- The words with Z in one, the ranges, the limit and the faults are own choices of this project.
-use Rattle.std.specs.Prelude.{ℕ, ◌+◌, ◌-◌, Bool, true, false, nat_lt, nat_le, ℤ, pos, negsuc, int_le, List, [], ◌∷◌, ◌++◌, length, slice_get, Option, Some, Result, Ok, Err, if◌then◌else◌, codes}
+-- The grammar of a zone's text, over the list of its tokens: the polygon and multipolygon texts of OGC 06-103r4 ("Well-known
+-- Text Representation for Geometry"). A phrase takes the tokens that are left; it hands on what it has read and the tokens
+-- behind it. The first token that does not fit is the fault, or the end of the text, which has `end` bytes.
+-- The words with Z in one, a third number at any point, no EMPTY in place of a ring, the limit of points and the faults are own
+-- choices of this project.
+use Rattle.std.specs.Prelude.{ℕ, zero, suc, ◌+◌, ◌-◌, Bool, true, false, ◌||◌, nat_lt, nat_le, ℤ, List, [], ◌∷◌, ◌++◌, length, slice_get, Option, Some, Result, Ok, Err, if◌then◌else◌, codes}
 use Rattle.std.specs.Str.{str_eq_ignore_ascii_case}
-use Rattle.ldp_decimal.specs.Reading.{decimal_of}
-use Rattle.ldp_decimal.specs.declared.fault.NumFault.{NumFault}
-use Rattle.ldp_decimal.specs.declared.fault.NumFault.TheVariants.{NotANumber, TooLarge}
 use Rattle.ldp_zone.specs.Tokens.{Token, tokens_of, sort_of}
+use Rattle.ldp_zone.specs.Coordinates.{◌>>=◌, longitude, latitude, height}
 use Rattle.ldp_zone.specs.Inside.{same_point}
+use Rattle.ldp_zone.specs.Area.{point_count}
 use Rattle.ldp_zone.specs.declared.point.Point.{Point}
 use Rattle.ldp_zone.specs.declared.tokens.Sort.{Sort}
 use Rattle.ldp_zone.specs.declared.tokens.Sort.TheVariants.{Open, Close, Comma, Run}
-use Rattle.ldp_zone.specs.declared.spot.Spot.{Spot}
-use Rattle.ldp_zone.specs.declared.spot.Spot.TheVariants as spots
 use Rattle.ldp_zone.specs.declared.fault.ZoneFault.{ZoneFault}
-use Rattle.ldp_zone.specs.declared.fault.ZoneFault.TheVariants.{NotAPolygon, Measured, BadNumber, OutOfRange, OpenRing, ShortRing, TooManyPoints, Trailing}
+use Rattle.ldp_zone.specs.declared.fault.ZoneFault.TheVariants.{NotAPolygon, Measured, OpenRing, ShortRing, TooManyPoints, Trailing}
 
--- the value, if there is one, handed on; the first fault else
-infixl 10 ◌>>=◌
-abbrev pub ◌>>=◌ : {A B : Type 0} → Result A ZoneFault → (A → Result B ZoneFault) → Result B ZoneFault
-Ok x >>= f = f x
-Err fault >>= f = Err fault
+-- what a phrase has read, and the tokens behind it
+pub record Read (A : Type 0) : Type 0 where
+  pub value : A
+  pub rest : List Token
 
--- what was read so far: what may stand next, whether the geometry is a multipolygon, the whole rings, the points of the
--- ring that is open, the first number of a point whose second is still to come, and how many points were begun
-pub record Progress : Type 0 where
-  pub spot : Spot
-  pub multi : Bool
-  pub rings : List (List Point)
-  pub ring : List Point
-  pub x : ℤ
-  pub count : ℕ
+-- a phrase, which reads a value
+abbrev pub Phrase : Type 0 → Type 0
+Phrase A = List Token → Result (Read A) ZoneFault
 
-abbrev pub Step : Type 0
-Step = Result Progress ZoneFault
-
--- nothing was read
-abbrev pub begin : Progress
-begin = record { spot = spots.Geometry; multi = false; rings = []; ring = []; x = pos 0; count = 0 }
-
--- a token that does not fit
-abbrev pub unfit : Token → Step
-unfit token = Err (NotAPolygon token.place)
+-- the next token does not fit, or there is none
+abbrev pub unfit : {A : Type 0} → ℕ → List Token → Result A ZoneFault
+unfit end [] = Err (NotAPolygon end)
+unfit end (token ∷ rest) = Err (NotAPolygon token.place)
 
 -- a word in any case
 abbrev pub is_word : Token → List ℕ → Bool
 is_word token word = str_eq_ignore_ascii_case token.bytes word
 
--- the word of the geometry
-unfoldable pub geometry : Progress → Token → Step
-geometry p token =
-    if is_word token (codes "POLYGON") then Ok record p { spot = spots.Dimension; multi = false }
-    else if is_word token (codes "MULTIPOLYGON") then Ok record p { spot = spots.Dimension; multi = true }
-    else if is_word token (codes "POLYGONZ") then Ok record p { spot = spots.Body; multi = false }
-    else if is_word token (codes "MULTIPOLYGONZ") then Ok record p { spot = spots.Body; multi = true }
-    else unfit token
+abbrev pub same_sort : Sort → Sort → Bool
+same_sort Open Open = true
+same_sort Close Close = true
+same_sort Comma Comma = true
+same_sort Run Run = true
+same_sort _ _ = false
 
-abbrev pub opened_by : Sort → Spot → Progress → Token → Step
-opened_by Open next p token = Ok record p { spot = next }
-opened_by _ next p token = unfit token
+-- which sign a token is, or that it is a run of other bytes
+infix 40 ◌is◌
+abbrev pub ◌is◌ : Token → Sort → Bool
+token is sort = same_sort (sort_of token.bytes) sort
 
--- a `(`
-unfoldable pub opened : Spot → Progress → Token → Step
-opened next p token = opened_by (sort_of token.bytes) next p token
+-- Lists.
 
--- what stands behind the `(` of a geometry's text
-abbrev pub within_body : Bool → Spot
-within_body multi = if multi then spots.Polygon else spots.Ring
+-- behind an item of a list: a comma and more of the list, or the parenthesis that closes it
+abbrev pub behind_item : {A : Type 0} → ℕ → Phrase A → A → Phrase A
+behind_item end more value [] = unfit end []
+behind_item end more value (token ∷ rest) =
+    if token is Comma then more rest
+    else if token is Close then Ok record { value = value; rest = rest }
+    else unfit end (token ∷ rest)
 
--- the text of the geometry
-unfoldable pub body : Progress → Token → Step
-body p token =
-    if is_word token (codes "EMPTY") then Ok record p { spot = spots.End }
-    else opened (within_body p.multi) p token
+-- items with commas between them and the parenthesis that closes the list. Each item adds to what was read before it. There
+-- are at most `most` items: a list of tokens holds no more items than tokens.
+abbrev pub items : {A : Type 0} → ℕ → (A → Phrase A) → ℕ → A → Phrase A
+items end item zero before tokens = unfit end tokens
+items end item (suc most) before tokens =
+    item before tokens >>= λ one. behind_item end (items end item most one.value) one.value one.rest
 
--- an optional Z; a geometry with M values is refused
-unfoldable pub dimension : Progress → Token → Step
-dimension p token =
-    if is_word token (codes "Z") then Ok record p { spot = spots.Body }
-    else if is_word token (codes "M") then Err (Measured token.place)
-    else if is_word token (codes "ZM") then Err (Measured token.place)
-    else body p token
+-- items in parentheses
+abbrev pub list_of : {A : Type 0} → ℕ → (A → Phrase A) → A → Phrase A
+list_of end item before [] = unfit end []
+list_of end item before (token ∷ rest) =
+    if token is Open then items end item (length rest) before rest
+    else unfit end (token ∷ rest)
 
--- the text of a polygon in a multipolygon
-unfoldable pub polygon : Progress → Token → Step
-polygon p token =
-    if is_word token (codes "EMPTY") then Ok record p { spot = spots.PolygonEnd }
-    else opened spots.Ring p token
+-- Points.
 
-abbrev pub number_or_fault : ℕ → Result ℤ NumFault → Result ℤ ZoneFault
-number_or_fault place (Ok n) = Ok n
-number_or_fault place (Err NotANumber) = Err (BadNumber place)
-number_or_fault place (Err (TooLarge negative)) = Err (OutOfRange place)
+-- a number, which `read` reads
+abbrev pub number : {A : Type 0} → ℕ → (Token → Result A ZoneFault) → Phrase A
+number end read [] = unfit end []
+number end read (token ∷ rest) =
+    if token is Run then (read token >>= λ n. Ok record { value = n; rest = rest })
+    else unfit end (token ∷ rest)
 
--- a number of degrees with 12 places, of at most so many units of 10^-12 degrees in absolute value
-unfoldable pub degrees : ℕ → Token → Result ℤ ZoneFault
-degrees limit token = number_or_fault token.place (decimal_of 12 limit token.bytes)
+-- the first number of a point that stands behind so many others in the text, of which there are at most 10,000
+abbrev pub longitude_behind : ℕ → Token → Result ℤ ZoneFault
+longitude_behind points token = if nat_le 10_000 points then Err TooManyPoints else longitude token
 
--- a longitude: -180 to 360 degrees
-unfoldable pub longitude : Token → Result ℤ ZoneFault
-longitude token = degrees 360_000_000_000_000 token
-    >>= λ x. if int_le (negsuc 179_999_999_999_999) x then Ok x else Err (OutOfRange token.place)
+-- an optional third number, which is dropped: the tokens behind it
+abbrev pub third : List Token → Result (List Token) ZoneFault
+third [] = Ok []
+third (token ∷ rest) = if token is Run then (height token >>= λ dropped. Ok rest) else Ok (token ∷ rest)
 
--- a latitude: -80 to 80 degrees
-abbrev pub latitude : Token → Result ℤ ZoneFault
-latitude token = degrees 80_000_000_000_000 token
+-- a point: two numbers, or three; it stands behind the points of this ring and those of the rings before it
+abbrev pub point : ℕ → List (List Point) → List Point → Phrase (List Point)
+point end rings before tokens = do
+  x ← number end (longitude_behind (point_count rings + length before)) tokens
+  y ← number end latitude x.rest
+  rest ← third y.rest
+  Ok record { value = before ++ record { x = x.value; y = y.value } ∷ []; rest = rest }
 
--- the first number of a point, of which a zone has at most 10,000
-unfoldable pub begun : Progress → Token → Step
-begun p token =
-    if nat_le 10_000 p.count then Err TooManyPoints
-    else (longitude token >>= λ x. Ok record p { spot = spots.Second; x = x; count = p.count + 1 })
-
-abbrev pub first_by : Sort → Progress → Token → Step
-first_by Run p token = begun p token
-first_by _ p token = unfit token
-
-unfoldable pub first : Progress → Token → Step
-first p token = first_by (sort_of token.bytes) p token
-
--- the second number of a point
-unfoldable pub ended : Progress → Token → Step
-ended p token = latitude token >>= λ y. Ok record p { spot = spots.Third; ring = p.ring ++ record { x = p.x; y = y } ∷ [] }
-
-abbrev pub second_by : Sort → Progress → Token → Step
-second_by Run p token = ended p token
-second_by _ p token = unfit token
-
-unfoldable pub second : Progress → Token → Step
-second p token = second_by (sort_of token.bytes) p token
+-- Rings.
 
 abbrev pub same_ends : Option Point → Option Point → Bool
 same_ends (Some p) (Some q) = same_point p q
@@ -140,94 +105,63 @@ same_ends _ _ = false
 unfoldable pub is_closed : List Point → Bool
 is_closed ring = same_ends (slice_get ring 0) (slice_get ring (length ring - 1))
 
--- the `)` of a ring; rings are numbered from 0 through the whole text
-unfoldable pub ring_whole : Progress → Step
-ring_whole p =
-    if nat_lt (length p.ring) 4 then Err (ShortRing (length p.rings))
-    else if is_closed p.ring then Ok record p { spot = spots.RingEnd; rings = p.rings ++ p.ring ∷ []; ring = [] }
-    else Err (OpenRing (length p.rings))
+-- rings, and one more that has at least four points, of which the last is the first; rings are numbered from 0 through the
+-- whole text
+unfoldable pub with_ring : List (List Point) → List Point → Result (List (List Point)) ZoneFault
+with_ring rings ring =
+    if nat_lt (length ring) 4 then Err (ShortRing (length rings))
+    else if is_closed ring then Ok (rings ++ ring ∷ [])
+    else Err (OpenRing (length rings))
 
-abbrev pub point_end_by : Sort → Progress → Token → Step
-point_end_by Comma p token = Ok record p { spot = spots.First }
-point_end_by Close p token = ring_whole p
-point_end_by _ p token = unfit token
+-- a ring: points in parentheses
+abbrev pub ring : ℕ → List (List Point) → Phrase (List (List Point))
+ring end before tokens = do
+  points ← list_of end (point end before) [] tokens
+  rings ← with_ring before points.value
+  Ok record { value = rings; rest = points.rest }
 
--- behind a point
-unfoldable pub point_end : Progress → Token → Step
-point_end p token = point_end_by (sort_of token.bytes) p token
+-- Polygons.
 
--- whether a text is a number of any size
-abbrev pub is_number : Result ℤ NumFault → Bool
-is_number (Err NotANumber) = false
-is_number _ = true
+-- EMPTY, or a body
+abbrev pub empty_or : {A : Type 0} → ℕ → (A → Phrase A) → A → Phrase A
+empty_or end body before [] = unfit end []
+empty_or end body before (token ∷ rest) =
+    if is_word token (codes "EMPTY") then Ok record { value = before; rest = rest }
+    else body before (token ∷ rest)
 
--- the third number of a point, which is dropped
-unfoldable pub height : Progress → Token → Step
-height p token =
-    if is_number (decimal_of 0 0 token.bytes) then Ok record p { spot = spots.PointEnd }
-    else Err (BadNumber token.place)
+-- the text of a polygon: EMPTY, or rings in parentheses
+abbrev pub polygon : ℕ → List (List Point) → Phrase (List (List Point))
+polygon end before tokens = empty_or end (list_of end (ring end)) before tokens
 
-abbrev pub third_by : Sort → Progress → Token → Step
-third_by Run p token = height p token
-third_by _ p token = point_end p token
+-- the text of a multipolygon: EMPTY, or polygon texts in parentheses
+abbrev pub multipolygon : ℕ → List (List Point) → Phrase (List (List Point))
+multipolygon end before tokens = empty_or end (list_of end (polygon end)) before tokens
 
--- a third number, or what stands behind a point
-unfoldable pub third : Progress → Token → Step
-third p token = third_by (sort_of token.bytes) p token
+-- Geometries.
 
--- what stands behind the `)` of a polygon's text
-abbrev pub behind_polygon : Bool → Spot
-behind_polygon multi = if multi then spots.PolygonEnd else spots.End
+-- behind the word: an optional Z, and the text; a geometry with M values is refused
+abbrev pub dimension : {A : Type 0} → ℕ → Phrase A → Phrase A
+dimension end text [] = unfit end []
+dimension end text (token ∷ rest) =
+    if is_word token (codes "Z") then text rest
+    else if is_word token (codes "M") || is_word token (codes "ZM") then Err (Measured token.place)
+    else text (token ∷ rest)
 
-abbrev pub ring_end_by : Sort → Progress → Token → Step
-ring_end_by Comma p token = Ok record p { spot = spots.Ring }
-ring_end_by Close p token = Ok record p { spot = behind_polygon p.multi }
-ring_end_by _ p token = unfit token
+-- the geometry: its word, and its text
+abbrev pub geometry : ℕ → Phrase (List (List Point))
+geometry end [] = unfit end []
+geometry end (token ∷ rest) =
+    if is_word token (codes "POLYGON") then dimension end (polygon end []) rest
+    else if is_word token (codes "MULTIPOLYGON") then dimension end (multipolygon end []) rest
+    else if is_word token (codes "POLYGONZ") then polygon end [] rest
+    else if is_word token (codes "MULTIPOLYGONZ") then multipolygon end [] rest
+    else unfit end (token ∷ rest)
 
--- behind a ring
-unfoldable pub ring_end : Progress → Token → Step
-ring_end p token = ring_end_by (sort_of token.bytes) p token
-
-abbrev pub polygon_end_by : Sort → Progress → Token → Step
-polygon_end_by Comma p token = Ok record p { spot = spots.Polygon }
-polygon_end_by Close p token = Ok record p { spot = spots.End }
-polygon_end_by _ p token = unfit token
-
--- behind a polygon in a multipolygon
-unfoldable pub polygon_end : Progress → Token → Step
-polygon_end p token = polygon_end_by (sort_of token.bytes) p token
-
-abbrev pub step_at : Spot → Progress → Token → Step
-step_at spots.Geometry p token = geometry p token
-step_at spots.Dimension p token = dimension p token
-step_at spots.Body p token = body p token
-step_at spots.Polygon p token = polygon p token
-step_at spots.Ring p token = opened spots.First p token
-step_at spots.First p token = first p token
-step_at spots.Second p token = second p token
-step_at spots.Third p token = third p token
-step_at spots.PointEnd p token = point_end p token
-step_at spots.RingEnd p token = ring_end p token
-step_at spots.PolygonEnd p token = polygon_end p token
-step_at spots.End p token = Err (Trailing token.place)
-
--- one token more
-unfoldable pub step : Progress → Token → Step
-step p token = step_at p.spot p token
-
-abbrev pub is_end : Spot → Bool
-is_end spots.End = true
-is_end _ = false
-
--- at the end of a text of so many bytes
-unfoldable pub finished : ℕ → Progress → Result (List (List Point)) ZoneFault
-finished end p = if is_end p.spot then Ok p.rings else Err (NotAPolygon end)
-
--- the rings of the tokens that are left, in a text of so many bytes
-unfoldable pub rings_from : ℕ → Progress → List Token → Result (List (List Point)) ZoneFault
-rings_from end p [] = finished end p
-rings_from end p (token ∷ tokens) = step p token >>= λ next. rings_from end next tokens
+-- nothing stands behind the geometry
+abbrev pub nothing_behind : {A : Type 0} → A → List Token → Result A ZoneFault
+nothing_behind value [] = Ok value
+nothing_behind value (token ∷ rest) = Err (Trailing token.place)
 
 -- the rings of a text, or its first fault
 unfoldable pub zone_of : List ℕ → Result (List (List Point)) ZoneFault
-zone_of text = rings_from (length text) begin (tokens_of text)
+zone_of text = geometry (length text) (tokens_of text) >>= λ read. nothing_behind read.value read.rest

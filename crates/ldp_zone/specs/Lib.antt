@@ -2,6 +2,8 @@ pub mod Inside
 pub mod Area
 pub mod Products
 pub mod Tokens
+pub mod Coordinates
 pub mod Grammar
+pub mod Steps
 pub mod Seen
 pub mod Walk

@@ -1,7 +1,7 @@
 -- What the private functions of the reader speak of.
 use Rattle.std.specs.Prelude.{ℕ, ◌+◌, ◌*◌, ◌≤◌, ◌≡◌, length, All, Result, Ok, Err}
 use Rattle.ldp_zone.specs.Tokens.{Token}
-use Rattle.ldp_zone.specs.Grammar.{Progress, Step}
+use Rattle.ldp_zone.specs.Steps.{Progress, Step}
 use Rattle.ldp_zone.specs.Area.{IsNear, IsLongitude, point_count}
 use Rattle.ldp_zone.specs.declared.tokens.Word.{Word}
 use Rattle.ldp_zone.specs.declared.spot.Spot.{Spot}

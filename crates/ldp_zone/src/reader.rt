@@ -3,7 +3,9 @@ ghost use Rattle.std.specs.Str.{str_eq_ignore_ascii_case};
 ghost use Rattle.ldp_decimal.specs.Reading.{decimal_of};
 ghost use Rattle.ldp_zone.specs.Area.{IsLongitude, IsLatitude};
 ghost use Rattle.ldp_zone.specs.Seen.{seen, Leaves, pending};
-ghost use Rattle.ldp_zone.specs.Grammar.{begin, geometry, opened, within_body, body, dimension, polygon, degrees, longitude, latitude, begun, first, ended, second, is_closed, ring_whole, point_end, is_number, height, third, behind_polygon, ring_end, polygon_end, step, finished};
+ghost use Rattle.ldp_zone.specs.Coordinates.{degrees, longitude, latitude, is_number};
+ghost use Rattle.ldp_zone.specs.Grammar.{is_closed};
+ghost use Rattle.ldp_zone.specs.Steps.{begin, geometry, opened, within_body, body, dimension, polygon, begun, first, ended, second, ring_whole, point_end, dropped, third, behind_polygon, ring_end, polygon_end, step, finished};
 
 use crate::fault::ZoneFault;
 use crate::point::Point;
@@ -39,7 +41,7 @@ pub struct Reader {
 }
 
 impl Model for Reader {
-    ghost use Rattle.ldp_zone.specs.Grammar.{Progress};
+    ghost use Rattle.ldp_zone.specs.Steps.{Progress};
     ghost use Rattle.ldp_zone.specs.Seen.{IsProgress};
 
     ghost Value = { Progress };
@@ -78,7 +80,7 @@ impl Reader {
     }
 
     /// Takes one token more.
-    #[tactic(auto, unfolding(crate::specs::Grammar::step))]
+    #[tactic(auto, unfolding(crate::specs::Steps::step))]
     pub fn take(&mut self, token: &Word<'_>) -> Result<(), ZoneFault>
         ensures { Leaves result self.new (step self.old (seen token.now)) }
     {
@@ -99,7 +101,7 @@ impl Reader {
     }
 
     /// The zone, where the text of so many bytes may end.
-    #[tactic(auto, unfolding(crate::specs::Grammar::finished))]
+    #[tactic(auto, unfolding(crate::specs::Steps::finished))]
     pub fn finish(self, end: usize) -> Result<Zone, ZoneFault>
         ensures { result ≡ finished end self }
     {
@@ -118,7 +120,7 @@ impl Reader {
     }
 
     /// The word of the geometry.
-    #[tactic(auto, unfolding(crate::specs::Grammar::geometry))]
+    #[tactic(auto, unfolding(crate::specs::Steps::geometry))]
     fn geometry(&mut self, token: &Word<'_>) -> Result<(), ZoneFault>
         ensures { Leaves result self.new (geometry self.old (seen token.now)) }
     {
@@ -141,7 +143,7 @@ impl Reader {
     }
 
     /// A `(`.
-    #[tactic(auto, unfolding(crate::specs::Grammar::opened))]
+    #[tactic(auto, unfolding(crate::specs::Steps::opened))]
     fn opened(&mut self, next: Spot, token: &Word<'_>) -> Result<(), ZoneFault>
         requires { pending next ≡ 0 }
         ensures { Leaves result self.new (opened next self.old (seen token.now)) }
@@ -156,7 +158,7 @@ impl Reader {
     }
 
     /// The text of the geometry.
-    #[tactic(auto, unfolding(crate::specs::Grammar::body))]
+    #[tactic(auto, unfolding(crate::specs::Steps::body))]
     fn body(&mut self, token: &Word<'_>) -> Result<(), ZoneFault>
         ensures { Leaves result self.new (body self.old (seen token.now)) }
     {
@@ -173,7 +175,7 @@ impl Reader {
     }
 
     /// An optional `Z`; a geometry with M values is refused.
-    #[tactic(auto, unfolding(crate::specs::Grammar::dimension))]
+    #[tactic(auto, unfolding(crate::specs::Steps::dimension))]
     fn dimension(&mut self, token: &Word<'_>) -> Result<(), ZoneFault>
         ensures { Leaves result self.new (dimension self.old (seen token.now)) }
     {
@@ -188,7 +190,7 @@ impl Reader {
     }
 
     /// The text of a polygon in a multipolygon.
-    #[tactic(auto, unfolding(crate::specs::Grammar::polygon))]
+    #[tactic(auto, unfolding(crate::specs::Steps::polygon))]
     fn polygon(&mut self, token: &Word<'_>) -> Result<(), ZoneFault>
         ensures { Leaves result self.new (polygon self.old (seen token.now)) }
     {
@@ -200,7 +202,7 @@ impl Reader {
     }
 
     /// The first number of a point.
-    #[tactic(auto, unfolding(crate::specs::Grammar::first))]
+    #[tactic(auto, unfolding(crate::specs::Steps::first))]
     fn first(&mut self, token: &Word<'_>) -> Result<(), ZoneFault>
         requires { pending self.old.spot ≡ 0 }
         ensures { Leaves result self.new (first self.old (seen token.now)) }
@@ -211,7 +213,7 @@ impl Reader {
         }
     }
 
-    #[tactic(auto, unfolding(crate::specs::Grammar::begun))]
+    #[tactic(auto, unfolding(crate::specs::Steps::begun))]
     fn begun(&mut self, token: &Word<'_>) -> Result<(), ZoneFault>
         requires { pending self.old.spot ≡ 0 }
         ensures { Leaves result self.new (begun self.old (seen token.now)) }
@@ -227,7 +229,7 @@ impl Reader {
     }
 
     /// The second number of a point.
-    #[tactic(auto, unfolding(crate::specs::Grammar::second))]
+    #[tactic(auto, unfolding(crate::specs::Steps::second))]
     fn second(&mut self, token: &Word<'_>) -> Result<(), ZoneFault>
         requires { pending self.old.spot ≡ 1 }
         ensures { Leaves result self.new (second self.old (seen token.now)) }
@@ -238,7 +240,7 @@ impl Reader {
         }
     }
 
-    #[tactic(auto, unfolding(crate::specs::Grammar::ended))]
+    #[tactic(auto, unfolding(crate::specs::Steps::ended))]
     fn ended(&mut self, token: &Word<'_>) -> Result<(), ZoneFault>
         requires { pending self.old.spot ≡ 1 }
         ensures { Leaves result self.new (ended self.old (seen token.now)) }
@@ -251,7 +253,7 @@ impl Reader {
     }
 
     /// A third number, which is dropped, or what stands behind a point.
-    #[tactic(auto, unfolding(crate::specs::Grammar::third))]
+    #[tactic(auto, unfolding(crate::specs::Steps::third))]
     fn third(&mut self, token: &Word<'_>) -> Result<(), ZoneFault>
         requires { pending self.old.spot ≡ 0 }
         ensures { Leaves result self.new (third self.old (seen token.now)) }
@@ -262,9 +264,9 @@ impl Reader {
         }
     }
 
-    #[tactic(auto, unfolding(crate::specs::Grammar::height))]
+    #[tactic(auto, unfolding(crate::specs::Steps::dropped, crate::specs::Coordinates::height))]
     fn height(&mut self, token: &Word<'_>) -> Result<(), ZoneFault>
-        ensures { Leaves result self.new (height self.old (seen token.now)) }
+        ensures { Leaves result self.new (dropped self.old (seen token.now)) }
     {
         if !is_number(token.bytes) {
             return Err(ZoneFault::BadNumber(token.place));
@@ -274,7 +276,7 @@ impl Reader {
     }
 
     /// Behind a point.
-    #[tactic(auto, unfolding(crate::specs::Grammar::point_end))]
+    #[tactic(auto, unfolding(crate::specs::Steps::point_end))]
     fn point_end(&mut self, token: &Word<'_>) -> Result<(), ZoneFault>
         requires { pending self.old.spot ≡ 0 }
         ensures { Leaves result self.new (point_end self.old (seen token.now)) }
@@ -290,7 +292,7 @@ impl Reader {
     }
 
     /// The `)` of a ring.
-    #[tactic(auto, using(crate::proofs::Rings::closed_ends), unfolding(crate::specs::Grammar::ring_whole))]
+    #[tactic(auto, using(crate::proofs::Rings::closed_ends), unfolding(crate::specs::Steps::ring_whole, crate::specs::Grammar::with_ring))]
     fn ring_whole(&mut self) -> Result<(), ZoneFault>
         requires { pending self.old.spot ≡ 0 }
         ensures { Leaves result self.new (ring_whole self.old) }
@@ -309,7 +311,7 @@ impl Reader {
     }
 
     /// Behind a ring.
-    #[tactic(auto, unfolding(crate::specs::Grammar::ring_end))]
+    #[tactic(auto, unfolding(crate::specs::Steps::ring_end))]
     fn ring_end(&mut self, token: &Word<'_>) -> Result<(), ZoneFault>
         ensures { Leaves result self.new (ring_end self.old (seen token.now)) }
     {
@@ -331,7 +333,7 @@ impl Reader {
     }
 
     /// Behind a polygon in a multipolygon.
-    #[tactic(auto, unfolding(crate::specs::Grammar::polygon_end))]
+    #[tactic(auto, unfolding(crate::specs::Steps::polygon_end))]
     fn polygon_end(&mut self, token: &Word<'_>) -> Result<(), ZoneFault>
         ensures { Leaves result self.new (polygon_end self.old (seen token.now)) }
     {
@@ -356,7 +358,7 @@ fn is_word(token: &Word<'_>, word: &[u8]) -> bool
     token.bytes.eq_ignore_ascii_case(word)
 }
 
-#[tactic(auto, unfolding(crate::specs::Grammar::degrees))]
+#[tactic(auto, unfolding(crate::specs::Coordinates::degrees))]
 fn degrees(token: &Word<'_>, limit: u64) -> Result<i128, ZoneFault>
     requires { limit ≤ 1_000_000_000_000_000 }
     ensures value { result ≡ degrees limit (seen token.now) }
@@ -370,7 +372,7 @@ fn degrees(token: &Word<'_>, limit: u64) -> Result<i128, ZoneFault>
 }
 
 /// A longitude, in 10^-12 degrees.
-#[tactic(auto, unfolding(crate::specs::Grammar::longitude))]
+#[tactic(auto, unfolding(crate::specs::Coordinates::longitude))]
 fn longitude(token: &Word<'_>) -> Result<i128, ZoneFault>
     ensures value { result ≡ longitude (seen token.now) }
     ensures range { IfOk result IsLongitude }

@@ -1,0 +1,174 @@
+-- What the reader does with each token: what may stand at each spot of the text, and where the reading stands after it. This is
+-- no definition of the text; it is proved to be the grammar.
+use Rattle.std.specs.Prelude.{ℕ, ◌+◌, Bool, true, false, ◌||◌, ℤ, pos, List, [], ◌∷◌, ◌++◌, Result, Ok, Err, if◌then◌else◌, codes}
+use Rattle.ldp_zone.specs.Tokens.{Token, sort_of}
+use Rattle.ldp_zone.specs.Coordinates.{◌>>=◌, latitude, height}
+use Rattle.ldp_zone.specs.Grammar.{is_word, longitude_behind, with_ring}
+use Rattle.ldp_zone.specs.declared.point.Point.{Point}
+use Rattle.ldp_zone.specs.declared.tokens.Sort.{Sort}
+use Rattle.ldp_zone.specs.declared.tokens.Sort.TheVariants.{Open, Close, Comma, Run}
+use Rattle.ldp_zone.specs.declared.spot.Spot.{Spot}
+use Rattle.ldp_zone.specs.declared.spot.Spot.TheVariants as spots
+use Rattle.ldp_zone.specs.declared.fault.ZoneFault.{ZoneFault}
+use Rattle.ldp_zone.specs.declared.fault.ZoneFault.TheVariants.{NotAPolygon, Measured, Trailing}
+
+-- what was read so far: what may stand next, whether the geometry is a multipolygon, the whole rings, the points of the
+-- ring that is open, the first number of a point whose second is still to come, and how many points were begun
+pub record Progress : Type 0 where
+  pub spot : Spot
+  pub multi : Bool
+  pub rings : List (List Point)
+  pub ring : List Point
+  pub x : ℤ
+  pub count : ℕ
+
+abbrev pub Step : Type 0
+Step = Result Progress ZoneFault
+
+-- nothing was read
+abbrev pub begin : Progress
+begin = record { spot = spots.Geometry; multi = false; rings = []; ring = []; x = pos 0; count = 0 }
+
+-- a token that does not fit
+abbrev pub unfit : Token → Step
+unfit token = Err (NotAPolygon token.place)
+
+-- the word of the geometry
+unfoldable pub geometry : Progress → Token → Step
+geometry p token =
+    if is_word token (codes "POLYGON") then Ok record p { spot = spots.Dimension; multi = false }
+    else if is_word token (codes "MULTIPOLYGON") then Ok record p { spot = spots.Dimension; multi = true }
+    else if is_word token (codes "POLYGONZ") then Ok record p { spot = spots.Body; multi = false }
+    else if is_word token (codes "MULTIPOLYGONZ") then Ok record p { spot = spots.Body; multi = true }
+    else unfit token
+
+abbrev pub opened_by : Sort → Spot → Progress → Token → Step
+opened_by Open next p token = Ok record p { spot = next }
+opened_by _ next p token = unfit token
+
+-- a `(`
+unfoldable pub opened : Spot → Progress → Token → Step
+opened next p token = opened_by (sort_of token.bytes) next p token
+
+-- what stands behind the `(` of a geometry's text
+abbrev pub within_body : Bool → Spot
+within_body multi = if multi then spots.Polygon else spots.Ring
+
+-- the text of the geometry
+unfoldable pub body : Progress → Token → Step
+body p token =
+    if is_word token (codes "EMPTY") then Ok record p { spot = spots.End }
+    else opened (within_body p.multi) p token
+
+-- an optional Z; a geometry with M values is refused
+unfoldable pub dimension : Progress → Token → Step
+dimension p token =
+    if is_word token (codes "Z") then Ok record p { spot = spots.Body }
+    else if is_word token (codes "M") || is_word token (codes "ZM") then Err (Measured token.place)
+    else body p token
+
+-- the text of a polygon in a multipolygon
+unfoldable pub polygon : Progress → Token → Step
+polygon p token =
+    if is_word token (codes "EMPTY") then Ok record p { spot = spots.PolygonEnd }
+    else opened spots.Ring p token
+
+-- the first number of a point
+unfoldable pub begun : Progress → Token → Step
+begun p token = longitude_behind p.count token >>= λ x. Ok record p { spot = spots.Second; x = x; count = p.count + 1 }
+
+abbrev pub first_by : Sort → Progress → Token → Step
+first_by Run p token = begun p token
+first_by _ p token = unfit token
+
+unfoldable pub first : Progress → Token → Step
+first p token = first_by (sort_of token.bytes) p token
+
+-- the second number of a point
+unfoldable pub ended : Progress → Token → Step
+ended p token = latitude token >>= λ y. Ok record p { spot = spots.Third; ring = p.ring ++ record { x = p.x; y = y } ∷ [] }
+
+abbrev pub second_by : Sort → Progress → Token → Step
+second_by Run p token = ended p token
+second_by _ p token = unfit token
+
+unfoldable pub second : Progress → Token → Step
+second p token = second_by (sort_of token.bytes) p token
+
+-- the `)` of a ring
+unfoldable pub ring_whole : Progress → Step
+ring_whole p = with_ring p.rings p.ring >>= λ rings. Ok record p { spot = spots.RingEnd; rings = rings; ring = [] }
+
+abbrev pub point_end_by : Sort → Progress → Token → Step
+point_end_by Comma p token = Ok record p { spot = spots.First }
+point_end_by Close p token = ring_whole p
+point_end_by _ p token = unfit token
+
+-- behind a point
+unfoldable pub point_end : Progress → Token → Step
+point_end p token = point_end_by (sort_of token.bytes) p token
+
+-- the third number of a point, which is dropped
+unfoldable pub dropped : Progress → Token → Step
+dropped p token = height token >>= λ read. Ok record p { spot = spots.PointEnd }
+
+abbrev pub third_by : Sort → Progress → Token → Step
+third_by Run p token = dropped p token
+third_by _ p token = point_end p token
+
+-- a third number, or what stands behind a point
+unfoldable pub third : Progress → Token → Step
+third p token = third_by (sort_of token.bytes) p token
+
+-- what stands behind the `)` of a polygon's text
+abbrev pub behind_polygon : Bool → Spot
+behind_polygon multi = if multi then spots.PolygonEnd else spots.End
+
+abbrev pub ring_end_by : Sort → Progress → Token → Step
+ring_end_by Comma p token = Ok record p { spot = spots.Ring }
+ring_end_by Close p token = Ok record p { spot = behind_polygon p.multi }
+ring_end_by _ p token = unfit token
+
+-- behind a ring
+unfoldable pub ring_end : Progress → Token → Step
+ring_end p token = ring_end_by (sort_of token.bytes) p token
+
+abbrev pub polygon_end_by : Sort → Progress → Token → Step
+polygon_end_by Comma p token = Ok record p { spot = spots.Polygon }
+polygon_end_by Close p token = Ok record p { spot = spots.End }
+polygon_end_by _ p token = unfit token
+
+-- behind a polygon in a multipolygon
+unfoldable pub polygon_end : Progress → Token → Step
+polygon_end p token = polygon_end_by (sort_of token.bytes) p token
+
+abbrev pub step_at : Spot → Progress → Token → Step
+step_at spots.Geometry p token = geometry p token
+step_at spots.Dimension p token = dimension p token
+step_at spots.Body p token = body p token
+step_at spots.Polygon p token = polygon p token
+step_at spots.Ring p token = opened spots.First p token
+step_at spots.First p token = first p token
+step_at spots.Second p token = second p token
+step_at spots.Third p token = third p token
+step_at spots.PointEnd p token = point_end p token
+step_at spots.RingEnd p token = ring_end p token
+step_at spots.PolygonEnd p token = polygon_end p token
+step_at spots.End p token = Err (Trailing token.place)
+
+-- one token more
+unfoldable pub step : Progress → Token → Step
+step p token = step_at p.spot p token
+
+abbrev pub is_end : Spot → Bool
+is_end spots.End = true
+is_end _ = false
+
+-- at the end of a text of so many bytes
+unfoldable pub finished : ℕ → Progress → Result (List (List Point)) ZoneFault
+finished end p = if is_end p.spot then Ok p.rings else Err (NotAPolygon end)
+
+-- the rings of the tokens that are left, in a text of so many bytes
+unfoldable pub rings_from : ℕ → Progress → List Token → Result (List (List Point)) ZoneFault
+rings_from end p [] = finished end p
+rings_from end p (token ∷ tokens) = step p token >>= λ next. rings_from end next tokens
