@@ -1,0 +1,5 @@
+mod Runs
+mod Rows
+mod Joints
+mod Worsts
+mod CellLoop

@@ -1,0 +1,5 @@
+pub mod Inputs
+pub mod Distortion
+pub mod Worst
+pub mod Rows
+pub mod Prepared

@@ -1,0 +1,19 @@
+-- A flat table: so many numbers a row, one row after another, and for each row whether it is defined.
+use Rattle.std.specs.Prelude.{◌≡◌, ◌*◌, ◌≤◌, ℕ, Bool, ℤ, List, [], ◌∷◌, length, take, drop, All, Option, Some, None, if◌then◌else◌}
+use Rattle.ldp_num.specs.Number.{IsNumber}
+
+-- the width of the rows, and the rows, none where one is undefined
+pub record RowTable : Type 0 where
+  pub width : ℕ
+  pub rows : List (Option (List ℤ))
+
+abbrev pub rows : ℕ → List Bool → List ℤ → List (Option (List ℤ))
+rows width [] numbers = []
+rows width (is_defined ∷ defined) numbers =
+    (if is_defined then Some (take width numbers) else None) ∷ rows width defined (drop width numbers)
+
+pub record IsTable (width : ℕ) (defined : List Bool) (numbers : List ℤ) : Type 0 where
+  pub narrow : width ≤ 8
+  pub few : length defined ≤ 200_000
+  pub full : length numbers ≡ width * length defined
+  pub in_range : All IsNumber numbers
