@@ -1,7 +1,4 @@
-mod Places
 mod NumberWords
 mod Writes
-mod Deltas
-mod Worsts
-mod CellLoop
 mod Told
+mod Designs

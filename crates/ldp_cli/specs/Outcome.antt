@@ -1,21 +1,23 @@
 -- What a command answers: a function of its words and of what the files hold. Own choice of this project.
 use Rattle.std.specs.Prelude.{ℕ, ◌==◌, nat_le, ℤ, pos, List, [], length, Option, Some, None, slice_get, ok_or, Result, Ok, Err, if◌then◌else◌}
 use Rattle.ldp_io.specs.Shelf.{Files}
+use Rattle.ldp_num.specs.Units.{radians_of}
 use Rattle.ldp_tm.specs.TransverseMercator.{transverse_mercator}
 use Rattle.ldp_heights.specs.Grid.{HeightGrid}
 use Rattle.ldp_heights.specs.Reading.{heights_of}
 use Rattle.ldp_heights.specs.declared.fault.HeightFault.{HeightFault}
 use Rattle.ldp_cli.specs.Request.{Request, eval, request}
 use Rattle.ldp_cells.specs.Cells.{CellList, area_cells}
-use Rattle.ldp_cli.specs.Distortion.{design_inputs, distortions}
-use Rattle.ldp_cli.specs.Worst.{worst_of}
+use Rattle.ldp_distortion.specs.Distortion.{distortions}
+use Rattle.ldp_distortion.specs.Worst.{worst_of}
 use Rattle.ldp_cli.specs.EvalText.{eval_text}
-use Rattle.ldp_cli.specs.Refusal.{refusal_status, refusal_line}
+use Rattle.ldp_cli.specs.Refusal.{refusal_status}
 use Rattle.ldp_cells.specs.declared.cell.Cell.{Cell}
 use Rattle.ldp_cells.specs.declared.fault.CellsFault.{CellsFault}
 use Rattle.ldp_cells.specs.declared.fault.CellsFault.TheVariants as cells_faults
-use Rattle.ldp_cli.specs.declared.distortion.Worst.{Worst}
-use Rattle.ldp_cli.specs.declared.distortion.Worst.TheVariants.{Is, Unusable}
+use Rattle.ldp_distortion.specs.declared.inputs.Inputs.{Inputs}
+use Rattle.ldp_distortion.specs.declared.worst.Worst.{Worst}
+use Rattle.ldp_distortion.specs.declared.worst.Worst.TheVariants.{Is, Unusable}
 use Rattle.ldp_cli.specs.declared.refusal.Role.TheVariants.{Heights}
 use Rattle.ldp_cli.specs.declared.refusal.Refusal.{Refusal}
 use Rattle.ldp_cli.specs.declared.refusal.Refusal.TheVariants.{Usage, TooLong, RefusedHeights, TooManyCells, NoCell, NoUsableDesign, Memory}
@@ -54,11 +56,14 @@ abbrev pub worst_told : CellList → Worst → Result (List ℕ) Refusal
 worst_told list (Is value cell) = told_at list value (slice_get list.cells cell)
 worst_told list (Unusable cell) = Err NoUsableDesign
 
--- the worst of a transverse Mercator design over the cells, from its central meridian and its scale factor; nothing in the
--- lists of the projection depends on the latitude and the azimuth of a design
+-- the transverse Mercator design with this central meridian, in 10^-12 degrees, and this scale factor; nothing in the lists of
+-- the projection depends on the latitude and the azimuth of a design
+abbrev pub meridian_design : ℤ → ℤ → Inputs
+meridian_design longitude scale = record { lat = pos 0; lon = radians_of longitude; azimuth = pos 0; scale = scale }
+
+-- its worst over the cells
 unfoldable pub worst_of_design : CellList → ℤ → ℤ → Worst
-worst_of_design list longitude scale =
-    worst_of (distortions transverse_mercator (design_inputs (pos 0) longitude (pos 0) scale) list.cells)
+worst_of_design list longitude scale = worst_of (distortions transverse_mercator (meridian_design longitude scale) list.cells)
 
 -- the text of `eval` over a grid
 abbrev pub grid_told : HeightGrid → ℤ → ℤ → Result (List ℕ) Refusal
@@ -86,8 +91,3 @@ status_of (Err refusal) = refusal_status refusal
 abbrev pub text_of : Result (List ℕ) Refusal → List ℕ
 text_of (Ok text) = text
 text_of (Err refusal) = []
-
--- what is written to the error output
-abbrev pub message_of : Result (List ℕ) Refusal → List ℕ
-message_of (Ok text) = []
-message_of (Err refusal) = refusal_line refusal

@@ -1,22 +1,27 @@
 ghost use Rattle.std.specs.Prelude.{◌≡◌, ◌<◌, ◌≤ℤ◌, [], ◌∷◌, length, pos, negsuc, IsTrue, IfOk, IfErr, IfSome};
 ghost use Rattle.ldp_cli.specs.Request.{eval as eval_of};
-ghost use Rattle.ldp_cli.specs.Worst.{HasNumber, IsWithin};
-ghost use Rattle.ldp_cli.specs.Outcome.{answer_to, heights_told, grid_told, cells_told, worst_of_design, worst_told};
+ghost use Rattle.ldp_distortion.specs.Worst.{HasNumber, IsWithin};
+ghost use Rattle.ldp_distortion.specs.Inputs.{AreNumbers};
+ghost use Rattle.ldp_cli.specs.Outcome.{answer_to, heights_told, grid_told, cells_told, meridian_design, worst_of_design, worst_told};
 ghost use Rattle.ldp_cli.specs.Clauses.{Gives, IsReadFault, IsOfWork, IsOfGrid, asked_by};
 
-use crate::distortion::{Worst, design_inputs, worst_over};
 use crate::eval_text::eval_text;
 use crate::read_file::{ReadFault, read_file};
 use crate::refusal::{Refusal, Role};
 use ldp_cells::{Cells, CellsFault, area_cells};
 use ldp_decimal::Text;
+use ldp_distortion::{Inputs, Prepared, Worst};
 use ldp_heights::{HeightFault, Heights, read_heights};
 use ldp_io::{Memory, Shelf};
+use ldp_num::{Bench, radians};
 use ldp_tm::lists;
 use std::alloc::Global;
 
 /// The most bytes of a file.
 const MOST_BYTES: usize = 128_000_000;
+
+/// The most steps of a list.
+const MOST_STEPS: usize = 4096;
 
 /// The text of `eval`: the worst of one transverse Mercator design over the cells of a grid.
 pub fn eval<H: Shelf>(
@@ -113,9 +118,26 @@ fn worst_of_design(
     ensures number { IfOk result HasNumber }
     ensures within { IfOk result (IsWithin (length cells.now.cells)) }
 {
-    let lists = lists(alloc)?;
-    let design = design_inputs(0, longitude, 0, scale);
-    worst_over(alloc, &lists, &design, cells)
+    let prepared = Prepared::new(alloc, lists(alloc)?, cells)?;
+    let mut bench = Bench::with_room(alloc, MOST_STEPS)?;
+    Ok(prepared.worst(&mut bench, meridian_design(longitude, scale)))
+}
+
+/// The transverse Mercator design with this central meridian, in 10^-12 degrees, and this scale factor.
+fn meridian_design(longitude: i128, scale: i128) -> Inputs
+    requires west { negsuc 179_999_999_999_999 ≤ℤ longitude }
+    requires east { longitude ≤ℤ pos 360_000_000_000_000 }
+    requires smallest { pos 500_000_000_000_000 ≤ℤ scale }
+    requires greatest { scale ≤ℤ pos 2_000_000_000_000_000 }
+    ensures value { result ≡ meridian_design longitude scale }
+    ensures numbers { AreNumbers result }
+{
+    Inputs {
+        lat: 0,
+        lon: radians(longitude),
+        azimuth: 0,
+        scale,
+    }
 }
 
 /// The text that a worst is told by.

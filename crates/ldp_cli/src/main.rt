@@ -1,7 +1,6 @@
 //! `ldp`: reads the words and files of a command, and writes what it answers.
 #![tactic(auto)]
 
-mod distortion;
 mod eval;
 mod eval_text;
 mod line;

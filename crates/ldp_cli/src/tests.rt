@@ -1,3 +1,4 @@
 mod commands;
 mod projections;
 mod ranges;
+mod three_cells;

@@ -1,4 +1,12 @@
-use ldp_num::{Bench, Fix, Num, eta, radians};
+ghost use Rattle.std.specs.Prelude.{IfOk};
+ghost use Rattle.ldp_num.specs.Number.{IsNumber};
+ghost use Rattle.ldp_distortion.specs.Inputs.{AreNumbers};
+ghost use Rattle.ldp_distortion.specs.Prepared.{FitTogether};
+
+use ldp_cells::area_cells;
+use ldp_distortion::{Inputs, Prepared, Worst};
+use ldp_heights::read_heights;
+use ldp_num::{Bench, eta, radians};
 use ldp_range::{Range, sharp};
 use ldp_series::{List, Lists};
 use std::alloc::{AllocError, Global};
@@ -27,6 +35,9 @@ struct Case {
     scale: i128,
     wanted: Option<(i128, i128)>,
 }
+
+/// One cell, at latitude 40°, longitude -105° and height 0.
+const ONE_CELL: &[u8] = b"ncols 1 nrows 1 xllcenter -105 yllcenter 40 cellsize 1 0";
 
 /// A design on its own meridian, parallel or centre, and one too far from the cell, of each kind that has one.
 const CASES: [Case; 5] = [
@@ -72,7 +83,9 @@ const CASES: [Case; 5] = [
     },
 ];
 
-fn lists_of(alloc: Global, projection: Projection) -> Result<Lists, AllocError> {
+fn lists_of(alloc: Global, projection: Projection) -> Result<Lists, AllocError>
+    ensures { IfOk result FitTogether }
+{
     match projection {
         Projection::TransverseMercator => ldp_tm::lists(alloc),
         Projection::Lambert => ldp_lambert::lists(alloc),
@@ -80,13 +93,13 @@ fn lists_of(alloc: Global, projection: Projection) -> Result<Lists, AllocError> 
     }
 }
 
-/// The results of a list over inputs, none where a step is undefined.
-fn results_of<N: Num>(
+/// The results of a list over ranges, none where a step is undefined.
+fn results_of(
     rt: &impl Abort,
     alloc: Global,
     list: &List,
-    inputs: &[N],
-) -> Result<Option<Vec<N>>, Fail> {
+    inputs: &[Range],
+) -> Result<Option<Vec<Range>>, Fail> {
     assert_eq!(rt; inputs.len(), list.inputs() as usize);
     let mut bench = Bench::with_room(alloc, 4096)?;
     if !bench.run(list.steps(), inputs) {
@@ -99,14 +112,14 @@ fn results_of<N: Num>(
     Ok(Some(results))
 }
 
-/// The distortion of a design at a cell in any carrier, none where it is undefined.
-fn distortion<N: Num>(
+/// The distortion of a design at a cell in ranges, none where it is undefined.
+fn distortion_range(
     rt: &impl Abort,
     alloc: Global,
     lists: &Lists,
-    design: &[N],
-    cell: &[N],
-) -> Result<Option<N>, Fail> {
+    design: &[Range],
+    cell: &[Range],
+) -> Result<Option<Range>, Fail> {
     let Some(mut joint) = results_of(rt, alloc, &lists.design, design)? else {
         return Ok(None);
     };
@@ -120,60 +133,80 @@ fn distortion<N: Num>(
     Ok(results.first().copied())
 }
 
-fn number(rt: &impl Abort, n: i128) -> Fix {
-    assert!(rt; -LIMIT <= n && n <= LIMIT);
-    Fix::constant(n)
-}
-
 /// The radian units of whole degrees.
-fn angle(rt: &impl Abort, degrees: i128) -> Fix {
+fn angle(rt: &impl Abort, degrees: i128) -> i128
+    ensures { IsNumber result }
+{
     assert!(rt; -360 <= degrees && degrees <= 360);
-    number(rt, radians(degrees * DEGREE))
+    radians(degrees * DEGREE)
 }
 
-/// Over the cell at latitude 40°, longitude -105° and height 0. A run in ranges at equal ends has the plain value at both.
+fn inputs_of(rt: &impl Abort, case: &Case) -> Inputs
+    ensures { AreNumbers result }
+{
+    assert!(rt; -LIMIT <= case.scale && case.scale <= LIMIT);
+    Inputs {
+        lat: angle(rt, case.latitude),
+        lon: angle(rt, case.longitude),
+        azimuth: angle(rt, case.azimuth),
+        scale: case.scale,
+    }
+}
+
+/// Over one cell: the worst is the distortion there. A run in ranges at equal ends has that value at both.
 #[test]
 fn single_points(rt: HostRuntime) -> Result<(), Fail> {
-    let cell = [angle(&rt, 40), angle(&rt, -105), number(&rt, eta(0))];
-    let cell_ranges = [sharp(cell[0].n), sharp(cell[1].n), sharp(cell[2].n)];
+    let cells = area_cells(rt.alloc(), &read_heights(rt.alloc(), ONE_CELL)?)?;
+    assert!(rt; cells.len() > 0);
+    let cell = [
+        sharp(angle(&rt, 40)),
+        sharp(angle(&rt, -105)),
+        sharp(eta(0)),
+    ];
     for case in CASES {
         let lists = lists_of(rt.alloc(), case.projection)?;
+        let prepared = Prepared::new(rt.alloc(), lists, &cells)?;
+        let mut bench = Bench::with_room(rt.alloc(), 4096)?;
+        let at = inputs_of(&rt, &case);
         let design = [
-            angle(&rt, case.latitude),
-            angle(&rt, case.longitude),
-            angle(&rt, case.azimuth),
-            number(&rt, case.scale),
+            sharp(at.lat),
+            sharp(at.lon),
+            sharp(at.azimuth),
+            sharp(at.scale),
         ];
-        let design_ranges: [Range; 4] = [
-            sharp(design[0].n),
-            sharp(design[1].n),
-            sharp(design[2].n),
-            sharp(design[3].n),
-        ];
-        let plain = distortion(&rt, rt.alloc(), &lists, &design, &cell)?.map(|value| value.n);
-        let range = distortion(&rt, rt.alloc(), &lists, &design_ranges, &cell_ranges)?;
-        assert_eq!(&rt; range.map(|ends| ends.lo()), plain);
-        assert_eq!(&rt; range.map(|ends| ends.hi()), plain);
-        assert_eq!(&rt; plain.is_some(), case.wanted.is_some());
-        if let (Some(value), Some((low, high))) = (plain, case.wanted) {
+        let value = prepared.delta(&mut bench, at, 0);
+        let range = distortion_range(&rt, rt.alloc(), prepared.lists(), &design, &cell)?;
+        assert_eq!(&rt; range.map(|ends| ends.lo()), value);
+        assert_eq!(&rt; range.map(|ends| ends.hi()), value);
+        let worst = match value {
+            Some(value) => Worst::Is { value, cell: 0 },
+            None => Worst::Unusable { cell: 0 },
+        };
+        assert_eq!(&rt; prepared.worst(&mut bench, at), worst);
+        assert_eq!(&rt; value.is_some(), case.wanted.is_some());
+        if let (Some(value), Some((low, high))) = (value, case.wanted) {
             assert!(&rt; low <= value && value <= high, "{value}");
         }
     }
     Ok(())
 }
 
-/// The numbers of steps, counted from the formulas.
+/// The numbers of steps and of results, counted from the formulas.
 #[test]
 fn lengths_of_lists(rt: HostRuntime) -> Result<(), Fail> {
-    for (projection, cell, design, joint) in [
-        (Projection::TransverseMercator, 185, 4, 26),
-        (Projection::Lambert, 255, 249, 86),
-        (Projection::Hotine, 255, 417, 246),
+    let cells = area_cells(rt.alloc(), &read_heights(rt.alloc(), ONE_CELL)?)?;
+    assert!(rt; cells.len() > 0);
+    for (projection, cell, design, joint, results) in [
+        (Projection::TransverseMercator, 185, 4, 26, 6),
+        (Projection::Lambert, 255, 249, 86, 3),
+        (Projection::Hotine, 255, 417, 246, 4),
     ] {
         let lists = lists_of(rt.alloc(), projection)?;
-        assert_eq!(rt; lists.cell.steps().len(), cell);
-        assert_eq!(rt; lists.design.steps().len(), design);
-        assert_eq!(rt; lists.joint.steps().len(), joint);
+        let prepared = Prepared::new(rt.alloc(), lists, &cells)?;
+        assert_eq!(rt; prepared.lists().cell.steps().len(), cell);
+        assert_eq!(rt; prepared.lists().design.steps().len(), design);
+        assert_eq!(rt; prepared.lists().joint.steps().len(), joint);
+        assert_eq!(rt; prepared.cell_outs(0).map(|outs| outs.len()), Some(results));
     }
     Ok(())
 }
