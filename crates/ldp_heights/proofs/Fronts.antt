@@ -2,7 +2,7 @@
 use Rattle.std.proofs.Common.{◌≡◌, ℕ, ◌+◌, ◌==◌, ◌<◌, true, false, ℤ, List, [], ◌∷◌, ◌++◌, length, Option, Result, Ok, Err, arith, refl, sym, append_assoc, append-nil}
 use Rattle.std.proofs.lemmas.Bool.Decides.{nat_tests}
 use Rattle.std.proofs.lemmas.List.{length-append}
-use Rattle.ldp_heights.specs.Tokens.{Token}
+use Rattle.ldp_tokens.specs.Tokens.{Token}
 use Rattle.ldp_heights.specs.Header.{◌>>=◌}
 use Rattle.ldp_heights.specs.Reading.{height_of, heights_from}
 use Rattle.ldp_heights.specs.declared.class.Class.{Class}

@@ -1,4 +1,3 @@
-mod Runs
 mod Values
 mod Pairs
 mod Fronts

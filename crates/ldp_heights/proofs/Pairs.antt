@@ -1,11 +1,12 @@
 -- One pair of a header after another.
 use Rattle.std.proofs.Common.{◌≡◌, ℕ, false, List, [], ◌∷◌, Option, Some, None, MatchOption, Ok, refl, sym}
-use Rattle.ldp_heights.specs.Tokens.{Token}
+use Rattle.ldp_tokens.specs.Tokens.{Token}
+use Rattle.ldp_tokens.specs.Seen.{seen}
+use Rattle.ldp_tokens.specs.declared.tokens.Token.{Token as HeldToken}
 use Rattle.ldp_heights.specs.Header.{begins_height, word_at, with_value, header_of, headed}
 use Rattle.ldp_heights.specs.Seen.{ahead}
 use Rattle.ldp_heights.specs.declared.header.Header.{Header}
 use Rattle.ldp_heights.specs.declared.header.HeaderWord.{HeaderWord}
-use Rattle.ldp_heights.specs.declared.tokens.Run.{Run}
 
 pub pair_read : (end : ℕ) (met more : Header) (word given : Token) (rest : List Token) (name : HeaderWord)
     → begins_height word.bytes ≡ false → word_at met word ≡ Ok name → with_value met name given ≡ Ok more
@@ -18,6 +19,6 @@ unfolding header_of
 header_ends end met tokens none = rw none refl
 
 -- the token that was taken, and those that are left
-pub ahead_next : (next : Option Run) (old new : List Token) → MatchOption next (old ≡ []) (λ run. old ≡ record { place = run.place; bytes = run.bytes.now } ∷ new) → ahead next new ≡ old
+pub ahead_next : (next : Option HeldToken) (old new : List Token) → MatchOption next (old ≡ []) (λ token. old ≡ seen token ∷ new) → ahead next new ≡ old
 ahead_next None old new none = sym none
-ahead_next (Some run) old new some = sym some
+ahead_next (Some token) old new some = sym some

@@ -8,7 +8,7 @@ use Rattle.ldp_decimal.specs.Grammar.{value}
 use Rattle.ldp_decimal.specs.Reading.{decimal_of}
 use Rattle.ldp_decimal.specs.declared.fault.NumFault.{NumFault}
 use Rattle.ldp_decimal.specs.declared.fault.NumFault.TheVariants.{NotANumber, TooLarge}
-use Rattle.ldp_heights.specs.Tokens.{Token}
+use Rattle.ldp_tokens.specs.Tokens.{Token}
 use Rattle.ldp_heights.specs.Classes.{is_nan, class_of}
 use Rattle.ldp_heights.specs.declared.class.Class.{Class}
 use Rattle.ldp_heights.specs.declared.class.Class.TheVariants.{Millimetres}
@@ -28,7 +28,7 @@ abbrev pub ◌>>=◌ : {A B : Type 0} → Result A HeightFault → (A → Result
 Ok x >>= f = f x
 Err fault >>= f = Err fault
 
--- a run that begins a height ends the header: it begins with a digit, `+`, `-` or `.`, or is `nan`
+-- a token that begins a height ends the header: it begins with a digit, `+`, `-` or `.`, or is `nan`
 abbrev pub begins_number : List ℕ → Bool
 begins_number [] = false
 begins_number (byte ∷ bytes) = is_ascii_digit byte || byte == 43 || byte == 45 || byte == 46
@@ -36,7 +36,7 @@ begins_number (byte ∷ bytes) = is_ascii_digit byte || byte == 43 || byte == 45
 abbrev pub begins_height : List ℕ → Bool
 begins_height bytes = begins_number bytes || is_nan bytes
 
--- the word that a run is, in any case
+-- the word that a token is, in any case
 unfoldable pub header_word : List ℕ → Option HeaderWord
 header_word bytes =
     if str_eq_ignore_ascii_case bytes (codes "ncols") then Some Ncols

@@ -1,4 +1,3 @@
-pub mod Tokens
 pub mod Classes
 pub mod Header
 pub mod Grid

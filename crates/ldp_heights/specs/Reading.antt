@@ -1,7 +1,7 @@
 -- Reading the text of an Esri ASCII grid: the header, then the heights row by row from the north, each row from west to east.
 -- The first fault, from left to right, is answered with its place. The profile is this project's own choice.
 use Rattle.std.specs.Prelude.{ℕ, ◌+◌, ◌*◌, ◌==◌, ℤ, List, [], ◌∷◌, length, Option, Some, None, Result, Ok, Err, if◌then◌else◌}
-use Rattle.ldp_heights.specs.Tokens.{Token, tokens_of}
+use Rattle.ldp_tokens.specs.Tokens.{Token, tokens_of}
 use Rattle.ldp_heights.specs.Classes.{class_of, same_class}
 use Rattle.ldp_heights.specs.Header.{◌>>=◌, class_or_fault, header_of, no_words, layout_of}
 use Rattle.ldp_heights.specs.Grid.{HeightGrid}
@@ -48,6 +48,6 @@ grid_of end tokens = do
   heights ← heights_from layout.missing (layout.cols * layout.rows) 0 headed.heights
   Ok (grid_with layout heights)
 
--- the grid of a text, or its first fault
+-- the grid of a text, in which no byte is a sign, or its first fault
 unfoldable pub heights_of : List ℕ → Result HeightGrid HeightFault
-heights_of text = grid_of (length text) (tokens_of text)
+heights_of text = grid_of (length text) (tokens_of [] text)

@@ -1,12 +1,12 @@
 ghost use Rattle.std.specs.Prelude.{◌≡◌, ◌*◌, ◌≤ℤ◌, ◌≤◌, pos, negsuc, unsigned_abs, IfOk};
-ghost use Rattle.ldp_heights.specs.Seen.{seen};
+ghost use Rattle.ldp_tokens.specs.Seen.{seen};
 ghost use Rattle.ldp_heights.specs.Header.{degrees_of, coordinate_of, spacing_of};
 ghost use Rattle.ldp_heights.specs.Grid.{IsDegrees, IsCoordinate, centre_along};
 ghost use Rattle.ldp_heights.specs.Ranges.{IsSpacing};
 
 use crate::fault::HeightFault;
-use crate::tokens::Run;
 use ldp_decimal::{NumFault, read_decimal};
+use ldp_tokens::Token;
 
 /// A coordinate in 10^-12 degrees, as it was given: of the grid's corner, or of the centre of a place.
 #[derive(Clone, Copy)]
@@ -22,35 +22,35 @@ const FULL_TURN: u64 = 360_000_000_000_000;
 const WIDEST: u64 = 10_000_000_000_000;
 
 #[tactic(auto, unfolding(crate::specs::Header::degrees_of))]
-fn read_degrees(run: &Run<'_>, limit: u64) -> Result<i128, HeightFault>
+fn read_degrees(token: &Token<'_>, limit: u64) -> Result<i128, HeightFault>
     requires { limit ≤ 1_000_000_000_000_000 }
-    ensures value { result ≡ degrees_of limit (seen run.now) }
+    ensures value { result ≡ degrees_of limit (seen token.now) }
     ensures range { IfOk result (λ n. unsigned_abs n ≤ limit) }
 {
-    match read_decimal(run.bytes, 12, i128::from(limit)) {
+    match read_decimal(token.bytes, 12, i128::from(limit)) {
         Ok(n) => Ok(n),
-        Err(NumFault::NotANumber) => Err(HeightFault::BadNumber(run.place)),
-        Err(NumFault::TooLarge { negative: _ }) => Err(HeightFault::OutOfRange(run.place)),
+        Err(NumFault::NotANumber) => Err(HeightFault::BadNumber(token.place)),
+        Err(NumFault::TooLarge { negative: _ }) => Err(HeightFault::OutOfRange(token.place)),
     }
 }
 
 /// A given coordinate, in 10^-12 degrees.
-pub fn read_coordinate(run: &Run<'_>) -> Result<i128, HeightFault>
-    ensures value { result ≡ coordinate_of (seen run.now) }
+pub fn read_coordinate(token: &Token<'_>) -> Result<i128, HeightFault>
+    ensures value { result ≡ coordinate_of (seen token.now) }
     ensures range { IfOk result IsDegrees }
 {
-    read_degrees(run, FULL_TURN)
+    read_degrees(token, FULL_TURN)
 }
 
 /// A spacing, in 10^-12 degrees.
 #[tactic(auto, unfolding(crate::specs::Header::spacing_of))]
-pub fn read_spacing(run: &Run<'_>) -> Result<u64, HeightFault>
-    ensures value { result ≡ spacing_of (seen run.now) }
+pub fn read_spacing(token: &Token<'_>) -> Result<u64, HeightFault>
+    ensures value { result ≡ spacing_of (seen token.now) }
     ensures range { IfOk result IsSpacing }
 {
-    let n = read_degrees(run, WIDEST)?;
+    let n = read_degrees(token, WIDEST)?;
     if n < 1 {
-        return Err(HeightFault::OutOfRange(run.place));
+        return Err(HeightFault::OutOfRange(token.place));
     }
     Ok(n as u64)
 }

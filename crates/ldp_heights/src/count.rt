@@ -3,27 +3,27 @@ ghost use Rattle.std.specs.List.{list_all};
 ghost use Rattle.std.specs.Char.{is_ascii_digit};
 ghost use Rattle.ldp_decimal.specs.Grammar.{value};
 ghost use Rattle.ldp_heights.specs.Ranges.{IsCount};
-ghost use Rattle.ldp_heights.specs.Seen.{seen};
+ghost use Rattle.ldp_tokens.specs.Seen.{seen};
 ghost use Rattle.ldp_heights.specs.Header.{count_of};
 
 use crate::fault::HeightFault;
-use crate::tokens::Run;
+use ldp_tokens::Token;
 
 /// The most places of a grid, and so the most rows and columns.
 pub const MOST_PLACES: u32 = 4_000_000;
 
 /// A count of rows or columns.
 #[tactic(auto, unfolding(crate::specs::Header::count_of))]
-pub fn read_count(run: &Run<'_>) -> Result<u32, HeightFault>
-    ensures value { result ≡ count_of (seen run.now) }
+pub fn read_count(token: &Token<'_>) -> Result<u32, HeightFault>
+    ensures value { result ≡ count_of (seen token.now) }
     ensures range { IfOk result IsCount }
 {
-    if !are_digits(run.bytes) {
-        return Err(HeightFault::BadNumber(run.place));
+    if !are_digits(token.bytes) {
+        return Err(HeightFault::BadNumber(token.place));
     }
-    match digits_value(run.bytes) {
+    match digits_value(token.bytes) {
         Some(n) if n >= 1 => Ok(n),
-        _ => Err(HeightFault::OutOfRange(run.place)),
+        _ => Err(HeightFault::OutOfRange(token.place)),
     }
 }
 

@@ -3,13 +3,14 @@ ghost use Rattle.std.specs.Result.{result_map_both};
 ghost use Rattle.std.specs.Str.{str_eq_ignore_ascii_case};
 ghost use Rattle.ldp_heights.specs.Header.{begins_height, begins_number, header_word, is_met, word_at, nodata_of, with_value, header_of, no_words, layout_of, headed};
 ghost use Rattle.ldp_heights.specs.Ranges.{AreInRange, IsLayout};
-ghost use Rattle.ldp_heights.specs.Seen.{seen, ahead};
+ghost use Rattle.ldp_tokens.specs.Seen.{seen};
+ghost use Rattle.ldp_heights.specs.Seen.{ahead};
 
 use crate::class::{Class, class_of, is_nan};
 use crate::coordinate::{Coordinate, read_coordinate, read_spacing};
 use crate::count::{MOST_PLACES, read_count};
 use crate::fault::{HeightFault, Word};
-use crate::tokens::{Run, Tokens};
+use ldp_tokens::{Token, Tokens};
 
 /// A word of the header, with the form of a coordinate.
 #[derive(Clone, Copy)]
@@ -81,56 +82,56 @@ impl Header {
         }
     }
 
-    /// The word that a run is, which was not met before.
+    /// The word that a token is, which was not met before.
     #[tactic(auto, unfolding(crate::specs::Header::word_at))]
-    fn word_at(&self, run: &Run<'_>) -> Result<HeaderWord, HeightFault>
-        ensures { result ≡ word_at self.now (seen run.now) }
+    fn word_at(&self, token: &Token<'_>) -> Result<HeaderWord, HeightFault>
+        ensures { result ≡ word_at self.now (seen token.now) }
     {
-        match header_word(run.bytes) {
-            None => Err(HeightFault::UnknownWord(run.place)),
-            Some(word) if self.is_met(word) => Err(HeightFault::RepeatedWord(run.place)),
+        match header_word(token.bytes) {
+            None => Err(HeightFault::UnknownWord(token.place)),
+            Some(word) if self.is_met(word) => Err(HeightFault::RepeatedWord(token.place)),
             Some(word) => Ok(word),
         }
     }
 
     /// The words met, with a value for this one.
     #[tactic(auto, unfolding(crate::specs::Header::with_value))]
-    fn with_value(&self, word: HeaderWord, run: &Run<'_>) -> Result<Header, HeightFault>
-        ensures value { result ≡ with_value self.now word (seen run.now) }
+    fn with_value(&self, word: HeaderWord, token: &Token<'_>) -> Result<Header, HeightFault>
+        ensures value { result ≡ with_value self.now word (seen token.now) }
         ensures range { AreInRange self.now → IfOk result AreInRange }
     {
         let met = *self;
         match word {
             HeaderWord::Ncols => Ok(Header {
-                ncols: Some(read_count(run)?),
+                ncols: Some(read_count(token)?),
                 ..met
             }),
             HeaderWord::Nrows => Ok(Header {
-                nrows: Some(read_count(run)?),
+                nrows: Some(read_count(token)?),
                 ..met
             }),
             HeaderWord::XllCorner => Ok(Header {
-                x: Some(Coordinate::Corner(read_coordinate(run)?)),
+                x: Some(Coordinate::Corner(read_coordinate(token)?)),
                 ..met
             }),
             HeaderWord::XllCenter => Ok(Header {
-                x: Some(Coordinate::Centre(read_coordinate(run)?)),
+                x: Some(Coordinate::Centre(read_coordinate(token)?)),
                 ..met
             }),
             HeaderWord::YllCorner => Ok(Header {
-                y: Some(Coordinate::Corner(read_coordinate(run)?)),
+                y: Some(Coordinate::Corner(read_coordinate(token)?)),
                 ..met
             }),
             HeaderWord::YllCenter => Ok(Header {
-                y: Some(Coordinate::Centre(read_coordinate(run)?)),
+                y: Some(Coordinate::Centre(read_coordinate(token)?)),
                 ..met
             }),
             HeaderWord::Cellsize => Ok(Header {
-                cellsize: Some(read_spacing(run)?),
+                cellsize: Some(read_spacing(token)?),
                 ..met
             }),
             HeaderWord::NodataValue => Ok(Header {
-                nodata: Some(read_nodata(run)?),
+                nodata: Some(read_nodata(token)?),
                 ..met
             }),
         }
@@ -165,21 +166,21 @@ impl Header {
     }
 }
 
-/// Reads the pairs of a header, up to the run that begins a height, which is answered too, or to the end.
+/// Reads the pairs of a header, up to the token that begins a height, which is answered too, or to the end.
 #[tactic(auto, unfolding(crate::specs::Header::header_of))]
 pub fn read_header<'a>(
     tokens: &mut Tokens<'a>,
     end: usize,
-) -> Result<(Header, Option<Run<'a>>), HeightFault>
+) -> Result<(Header, Option<Token<'a>>), HeightFault>
     ensures value { result_map_both (λ read. headed read.0 (ahead read.1 tokens.new)) (λ fault. fault) result ≡ header_of end no_words tokens.old }
     ensures range { IfOk result (λ read. AreInRange read.0) }
 {
     let mut header = Header::empty();
-    while let Some(run) = tokens.next() {
-        if begins_height(run.bytes) {
-            return Ok((header, Some(run)));
+    while let Some(token) = tokens.next() {
+        if begins_height(token.bytes) {
+            return Ok((header, Some(token)));
         }
-        let word = header.word_at(&run)?;
+        let word = header.word_at(&token)?;
         let Some(value) = tokens.next() else {
             return Err(HeightFault::BadNumber(end));
         };
@@ -189,13 +190,13 @@ pub fn read_header<'a>(
 }
 
 /// The class of a missing height.
-fn read_nodata(run: &Run<'_>) -> Result<Class, HeightFault>
-    ensures { result ≡ nodata_of (seen run.now) }
+fn read_nodata(token: &Token<'_>) -> Result<Class, HeightFault>
+    ensures { result ≡ nodata_of (seen token.now) }
 {
-    class_of(run.bytes).ok_or(HeightFault::BadNumber(run.place))
+    class_of(token.bytes).ok_or(HeightFault::BadNumber(token.place))
 }
 
-/// Whether a run ends the header.
+/// Whether a token ends the header.
 fn begins_height(bytes: &[u8]) -> bool
     ensures { result ≡ begins_height bytes.now }
 {
@@ -211,7 +212,7 @@ fn begins_number(bytes: &[u8]) -> bool
     }
 }
 
-/// The word that a run is, in any case.
+/// The word that a token is, in any case.
 #[tactic(auto, unfolding(crate::specs::Header::header_word))]
 fn header_word(bytes: &[u8]) -> Option<HeaderWord>
     ensures { result ≡ header_word bytes.now }

@@ -12,7 +12,6 @@ mod header;
 mod read;
 #[cfg(test)]
 mod tests;
-mod tokens;
 
 pub use fault::{HeightFault, Word};
 pub use grid::Heights;

@@ -1,14 +1,15 @@
 ghost use Rattle.std.specs.Prelude.{◌≡◌, ◌≢◌, ◌*◌, ◌≤◌, length, All, IfOk, IfErr};
 ghost use Rattle.ldp_heights.specs.Grid.{IsHeight};
 ghost use Rattle.ldp_heights.specs.Ranges.{IsLayout};
-ghost use Rattle.ldp_heights.specs.Seen.{seen, ahead};
+ghost use Rattle.ldp_tokens.specs.Seen.{seen};
+ghost use Rattle.ldp_heights.specs.Seen.{ahead};
 ghost use Rattle.ldp_heights.specs.Reading.{height_of, heights_from, heights_of};
 
 use crate::class::{Class, class_of};
 use crate::fault::HeightFault;
 use crate::grid::Heights;
 use crate::header::{Layout, read_header};
-use crate::tokens::{Run, Tokens};
+use ldp_tokens::{Token, Tokens};
 use std::alloc::Global;
 
 /// Reads the text of an Esri ASCII grid whose heights are ellipsoid heights in metres, over degrees.
@@ -16,18 +17,18 @@ use std::alloc::Global;
 pub fn read_heights(alloc: Global, text: &[u8]) -> Result<Heights, HeightFault>
     ensures exact { result ≢ Err HeightFault.Memory → result ≡ heights_of text.now }
 {
-    let mut tokens = Tokens::of_text(text);
+    let mut tokens = Tokens::of_text(text, b"");
     let (header, first) = read_header(&mut tokens, text.len())?;
     let layout = header.layout()?;
     let heights = read_places(alloc, &layout, first, &mut tokens)?;
     Ok(Heights::with_layout(&layout, heights))
 }
 
-/// The heights of all places, of which the first is at a run that was taken already.
+/// The heights of all places, of which the first is at a token that was taken already.
 fn read_places<'a>(
     alloc: Global,
     layout: &Layout,
-    first: Option<Run<'a>>,
+    first: Option<Token<'a>>,
     tokens: &mut Tokens<'a>,
 ) -> Result<Vec<Option<i32>>, HeightFault>
     requires { IsLayout layout.now }
@@ -39,11 +40,11 @@ fn read_places<'a>(
     let places = (layout.cols * layout.rows) as usize;
     let mut heights = Vec::with_capacity(alloc, places)?;
     let mut next = first;
-    while let Some(run) = next {
+    while let Some(token) = next {
         if heights.len() == places {
-            return Err(HeightFault::Trailing(run.place));
+            return Err(HeightFault::Trailing(token.place));
         }
-        let height = read_height(layout.missing, &run)?;
+        let height = read_height(layout.missing, &token)?;
         heights.push(height)?;
         next = tokens.next();
     }
@@ -55,18 +56,18 @@ fn read_places<'a>(
 
 /// A height in millimetres, or None where its class is the missing one.
 #[tactic(auto, unfolding(crate::specs::Reading::height_of))]
-fn read_height(missing: Class, run: &Run<'_>) -> Result<Option<i32>, HeightFault>
-    ensures value { result ≡ height_of missing (seen run.now) }
+fn read_height(missing: Class, token: &Token<'_>) -> Result<Option<i32>, HeightFault>
+    ensures value { result ≡ height_of missing (seen token.now) }
     ensures range { IfOk result IsHeight }
 {
-    let class = class_of(run.bytes).ok_or(HeightFault::BadNumber(run.place))?;
+    let class = class_of(token.bytes).ok_or(HeightFault::BadNumber(token.place))?;
     if class.is_same(missing) {
         return Ok(None);
     }
     match class {
         Class::Millimetres(millimetres) => Ok(Some(millimetres)),
-        Class::Nan => Err(HeightFault::BadNumber(run.place)),
-        Class::TooHigh => Err(HeightFault::OutOfRange(run.place)),
-        Class::TooLow => Err(HeightFault::OutOfRange(run.place)),
+        Class::Nan => Err(HeightFault::BadNumber(token.place)),
+        Class::TooHigh => Err(HeightFault::OutOfRange(token.place)),
+        Class::TooLow => Err(HeightFault::OutOfRange(token.place)),
     }
 }

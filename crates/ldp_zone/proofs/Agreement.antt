@@ -1,12 +1,13 @@
 -- The reader's steps are the grammar: through a whole text they give what the grammar gives.
 use Rattle.std.proofs.Common.{◌≡◌, ℕ, Bool, true, false, ◌||◌, pos, List, [], ◌∷◌, length, Result, refl, arith}
 use Rattle.std.specs.Prelude.{codes}
-use Rattle.ldp_zone.specs.Tokens.{Token, tokens_of, sort_of}
+use Rattle.ldp_tokens.specs.Tokens.{Token, tokens_of}
+use Rattle.ldp_zone.specs.Sort.{signs, sort_of}
 use Rattle.ldp_zone.specs.Coordinates.{◌>>=◌}
 use Rattle.ldp_zone.specs.Grammar.{Read, is_word, polygon, multipolygon, dimension, geometry, zone_of}
 use Rattle.ldp_zone.specs.Steps as steps
-use Rattle.ldp_zone.specs.declared.tokens.Sort.{Sort}
-use Rattle.ldp_zone.specs.declared.tokens.Sort.TheVariants.{Open}
+use Rattle.ldp_zone.specs.declared.sort.Sort.{Sort}
+use Rattle.ldp_zone.specs.declared.sort.Sort.TheVariants.{Open}
 use Rattle.ldp_zone.specs.declared.spot.Spot.{Spot}
 use Rattle.ldp_zone.specs.declared.spot.Spot.TheVariants as spots
 use Rattle.ldp_zone.specs.declared.fault.ZoneFault.{ZoneFault}
@@ -73,6 +74,6 @@ whole end [] = refl
 whole end (token ∷ rest) = geometry_by end token rest _ _ _ _ refl refl refl refl
 
 -- the reader's steps through a whole text give what the grammar gives
-pub reads_zone : (text : List ℕ) → steps.rings_from (length text) steps.begin (tokens_of text) ≡ zone_of text
+pub reads_zone : (text : List ℕ) → steps.rings_from (length text) steps.begin (tokens_of signs text) ≡ zone_of text
 unfolding zone_of
-reads_zone text = whole (length text) (tokens_of text)
+reads_zone text = whole (length text) (tokens_of signs text)

@@ -1,5 +1,4 @@
 mod Products
-mod Runs
 mod Walks
 mod Rings
 mod Sides

@@ -3,7 +3,7 @@
 -- tokens that are left.
 use Rattle.std.proofs.Common.{◌≡◌, ℕ, ◌+◌, ◌≤◌, Bool, true, false, ℤ, List, [], ◌∷◌, ◌++◌, length, Result, Ok, Err, refl}
 use Rattle.std.proofs.lemmas.List.Sums.{sum_by_push}
-use Rattle.ldp_zone.specs.Tokens.{Token}
+use Rattle.ldp_tokens.specs.Tokens.{Token}
 use Rattle.ldp_zone.specs.Coordinates.{◌>>=◌, latitude}
 use Rattle.ldp_zone.specs.Area.{point_count}
 use Rattle.ldp_zone.specs.Grammar.{Read, behind_item, items, number, third, point, with_ring, ring, polygon, nothing_behind}

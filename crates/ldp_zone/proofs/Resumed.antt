@@ -2,14 +2,15 @@
 -- with no token left, and with one token more.
 use Rattle.std.proofs.Common.{◌≡◌, ℕ, zero, suc, ◌+◌, ◌≤◌, Bool, true, false, ℤ, List, [], ◌∷◌, ◌++◌, length, nat_lt, Result, Ok, Err, refl, ap, arith, length-append}
 use Rattle.std.specs.Prelude.{codes}
-use Rattle.ldp_zone.specs.Tokens.{Token, sort_of}
+use Rattle.ldp_tokens.specs.Tokens.{Token}
+use Rattle.ldp_zone.specs.Sort.{sort_of}
 use Rattle.ldp_zone.specs.Coordinates.{◌>>=◌, latitude, height}
 use Rattle.ldp_zone.specs.Area.{point_count}
 use Rattle.ldp_zone.specs.Grammar.{is_word, items, longitude_behind, point, is_closed, with_ring}
 use Rattle.ldp_zone.specs.Steps as steps
 use Rattle.ldp_zone.specs.declared.point.Point.{Point}
-use Rattle.ldp_zone.specs.declared.tokens.Sort.{Sort}
-use Rattle.ldp_zone.specs.declared.tokens.Sort.TheVariants.{Open, Close, Comma, Run}
+use Rattle.ldp_zone.specs.declared.sort.Sort.{Sort}
+use Rattle.ldp_zone.specs.declared.sort.Sort.TheVariants.{Open, Close, Comma, Run}
 use Rattle.ldp_zone.specs.declared.spot.Spot.{Spot}
 use Rattle.ldp_zone.specs.declared.spot.Spot.TheVariants as spots
 use Rattle.ldp_zone.specs.declared.fault.ZoneFault.{ZoneFault}

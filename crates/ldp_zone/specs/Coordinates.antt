@@ -4,7 +4,7 @@ use Rattle.std.specs.Prelude.{ℕ, Bool, true, false, ℤ, negsuc, int_le, Resul
 use Rattle.ldp_decimal.specs.Reading.{decimal_of}
 use Rattle.ldp_decimal.specs.declared.fault.NumFault.{NumFault}
 use Rattle.ldp_decimal.specs.declared.fault.NumFault.TheVariants.{NotANumber, TooLarge}
-use Rattle.ldp_zone.specs.Tokens.{Token}
+use Rattle.ldp_tokens.specs.Tokens.{Token}
 use Rattle.ldp_zone.specs.declared.fault.ZoneFault.{ZoneFault}
 use Rattle.ldp_zone.specs.declared.fault.ZoneFault.TheVariants.{BadNumber, OutOfRange}
 

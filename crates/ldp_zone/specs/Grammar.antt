@@ -5,13 +5,14 @@
 -- choices of this project.
 use Rattle.std.specs.Prelude.{ℕ, zero, suc, ◌+◌, ◌-◌, Bool, true, false, ◌||◌, nat_lt, nat_le, ℤ, List, [], ◌∷◌, ◌++◌, length, slice_get, Option, Some, Result, Ok, Err, if◌then◌else◌, codes}
 use Rattle.std.specs.Str.{str_eq_ignore_ascii_case}
-use Rattle.ldp_zone.specs.Tokens.{Token, tokens_of, sort_of}
+use Rattle.ldp_tokens.specs.Tokens.{Token, tokens_of}
+use Rattle.ldp_zone.specs.Sort.{signs, sort_of}
 use Rattle.ldp_zone.specs.Coordinates.{◌>>=◌, longitude, latitude, height}
 use Rattle.ldp_zone.specs.Inside.{same_point}
 use Rattle.ldp_zone.specs.Area.{point_count}
 use Rattle.ldp_zone.specs.declared.point.Point.{Point}
-use Rattle.ldp_zone.specs.declared.tokens.Sort.{Sort}
-use Rattle.ldp_zone.specs.declared.tokens.Sort.TheVariants.{Open, Close, Comma, Run}
+use Rattle.ldp_zone.specs.declared.sort.Sort.{Sort}
+use Rattle.ldp_zone.specs.declared.sort.Sort.TheVariants.{Open, Close, Comma, Run}
 use Rattle.ldp_zone.specs.declared.fault.ZoneFault.{ZoneFault}
 use Rattle.ldp_zone.specs.declared.fault.ZoneFault.TheVariants.{NotAPolygon, Measured, OpenRing, ShortRing, TooManyPoints, Trailing}
 
@@ -164,4 +165,4 @@ nothing_behind value (token ∷ rest) = Err (Trailing token.place)
 
 -- the rings of a text, or its first fault
 unfoldable pub zone_of : List ℕ → Result (List (List Point)) ZoneFault
-zone_of text = geometry (length text) (tokens_of text) >>= λ read. nothing_behind read.value read.rest
+zone_of text = geometry (length text) (tokens_of signs text) >>= λ read. nothing_behind read.value read.rest

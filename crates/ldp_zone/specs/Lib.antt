@@ -1,7 +1,7 @@
 pub mod Inside
 pub mod Area
 pub mod Products
-pub mod Tokens
+pub mod Sort
 pub mod Coordinates
 pub mod Grammar
 pub mod Steps

@@ -1,16 +1,11 @@
 -- What the private functions of the reader speak of.
 use Rattle.std.specs.Prelude.{ℕ, ◌+◌, ◌*◌, ◌≤◌, ◌≡◌, length, All, Result, Ok, Err}
-use Rattle.ldp_zone.specs.Tokens.{Token}
 use Rattle.ldp_zone.specs.Steps.{Progress, Step}
 use Rattle.ldp_zone.specs.Area.{IsNear, IsLongitude, point_count}
-use Rattle.ldp_zone.specs.declared.tokens.Word.{Word}
 use Rattle.ldp_zone.specs.declared.spot.Spot.{Spot}
 use Rattle.ldp_zone.specs.declared.spot.Spot.TheVariants as spots
 use Rattle.ldp_zone.specs.declared.fault.ZoneFault.{ZoneFault}
 use Rattle.ldp_zone.specs.declared.fault.ZoneFault.TheVariants as faults
-
-abbrev pub seen : Word → Token
-seen word = record { place = word.place; bytes = word.bytes.now }
 
 -- an error but for want of memory is that of the definition
 abbrev pub Fails : {A : Type 0} → ZoneFault → Result A ZoneFault → Type 0

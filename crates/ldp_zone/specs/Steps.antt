@@ -1,12 +1,13 @@
 -- What the reader does with each token: what may stand at each spot of the text, and where the reading stands after it. This is
 -- no definition of the text; it is proved to be the grammar.
 use Rattle.std.specs.Prelude.{ℕ, ◌+◌, Bool, true, false, ◌||◌, ℤ, pos, List, [], ◌∷◌, ◌++◌, Result, Ok, Err, if◌then◌else◌, codes}
-use Rattle.ldp_zone.specs.Tokens.{Token, sort_of}
+use Rattle.ldp_tokens.specs.Tokens.{Token}
+use Rattle.ldp_zone.specs.Sort.{sort_of}
 use Rattle.ldp_zone.specs.Coordinates.{◌>>=◌, latitude, height}
 use Rattle.ldp_zone.specs.Grammar.{is_word, longitude_behind, with_ring}
 use Rattle.ldp_zone.specs.declared.point.Point.{Point}
-use Rattle.ldp_zone.specs.declared.tokens.Sort.{Sort}
-use Rattle.ldp_zone.specs.declared.tokens.Sort.TheVariants.{Open, Close, Comma, Run}
+use Rattle.ldp_zone.specs.declared.sort.Sort.{Sort}
+use Rattle.ldp_zone.specs.declared.sort.Sort.TheVariants.{Open, Close, Comma, Run}
 use Rattle.ldp_zone.specs.declared.spot.Spot.{Spot}
 use Rattle.ldp_zone.specs.declared.spot.Spot.TheVariants as spots
 use Rattle.ldp_zone.specs.declared.fault.ZoneFault.{ZoneFault}

@@ -10,10 +10,10 @@ mod product;
 mod read;
 mod reader;
 mod ring;
+mod sort;
 mod spot;
 #[cfg(test)]
 mod tests;
-mod tokens;
 mod zone;
 
 pub use fault::ZoneFault;

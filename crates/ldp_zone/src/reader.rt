@@ -2,7 +2,8 @@ ghost use Rattle.std.specs.Prelude.{◌≡◌, ◌≤◌, IfOk, unsigned_abs};
 ghost use Rattle.std.specs.Str.{str_eq_ignore_ascii_case};
 ghost use Rattle.ldp_decimal.specs.Reading.{decimal_of};
 ghost use Rattle.ldp_zone.specs.Area.{IsLongitude, IsLatitude};
-ghost use Rattle.ldp_zone.specs.Seen.{seen, Leaves, pending};
+ghost use Rattle.ldp_tokens.specs.Seen.{seen};
+ghost use Rattle.ldp_zone.specs.Seen.{Leaves, pending};
 ghost use Rattle.ldp_zone.specs.Coordinates.{degrees, longitude, latitude, is_number};
 ghost use Rattle.ldp_zone.specs.Grammar.{is_closed};
 ghost use Rattle.ldp_zone.specs.Steps.{begin, geometry, opened, within_body, body, dimension, polygon, begun, first, ended, second, ring_whole, point_end, dropped, third, behind_polygon, ring_end, polygon_end, step, finished};
@@ -10,10 +11,11 @@ ghost use Rattle.ldp_zone.specs.Steps.{begin, geometry, opened, within_body, bod
 use crate::fault::ZoneFault;
 use crate::point::Point;
 use crate::ring::Ring;
+use crate::sort::{Sort, sort_of};
 use crate::spot::Spot;
-use crate::tokens::{Sort, Word};
 use crate::zone::Zone;
 use ldp_decimal::{NumFault, read_decimal};
+use ldp_tokens::Token;
 use std::alloc::Global;
 use std::marker::Model;
 
@@ -81,7 +83,7 @@ impl Reader {
 
     /// Takes one token more.
     #[tactic(auto, unfolding(crate::specs::Steps::step))]
-    pub fn take(&mut self, token: &Word<'_>) -> Result<(), ZoneFault>
+    pub fn take(&mut self, token: &Token<'_>) -> Result<(), ZoneFault>
         ensures { Leaves result self.new (step self.old (seen token.now)) }
     {
         match self.spot {
@@ -121,7 +123,7 @@ impl Reader {
 
     /// The word of the geometry.
     #[tactic(auto, unfolding(crate::specs::Steps::geometry))]
-    fn geometry(&mut self, token: &Word<'_>) -> Result<(), ZoneFault>
+    fn geometry(&mut self, token: &Token<'_>) -> Result<(), ZoneFault>
         ensures { Leaves result self.new (geometry self.old (seen token.now)) }
     {
         if is_word(token, b"POLYGON") {
@@ -144,11 +146,11 @@ impl Reader {
 
     /// A `(`.
     #[tactic(auto, unfolding(crate::specs::Steps::opened))]
-    fn opened(&mut self, next: Spot, token: &Word<'_>) -> Result<(), ZoneFault>
+    fn opened(&mut self, next: Spot, token: &Token<'_>) -> Result<(), ZoneFault>
         requires { pending next ≡ 0 }
         ensures { Leaves result self.new (opened next self.old (seen token.now)) }
     {
-        match token.sort() {
+        match sort_of(token.bytes) {
             Sort::Open => {
                 self.spot = next;
                 Ok(())
@@ -159,7 +161,7 @@ impl Reader {
 
     /// The text of the geometry.
     #[tactic(auto, unfolding(crate::specs::Steps::body))]
-    fn body(&mut self, token: &Word<'_>) -> Result<(), ZoneFault>
+    fn body(&mut self, token: &Token<'_>) -> Result<(), ZoneFault>
         ensures { Leaves result self.new (body self.old (seen token.now)) }
     {
         if is_word(token, b"EMPTY") {
@@ -176,7 +178,7 @@ impl Reader {
 
     /// An optional `Z`; a geometry with M values is refused.
     #[tactic(auto, unfolding(crate::specs::Steps::dimension))]
-    fn dimension(&mut self, token: &Word<'_>) -> Result<(), ZoneFault>
+    fn dimension(&mut self, token: &Token<'_>) -> Result<(), ZoneFault>
         ensures { Leaves result self.new (dimension self.old (seen token.now)) }
     {
         if is_word(token, b"Z") {
@@ -191,7 +193,7 @@ impl Reader {
 
     /// The text of a polygon in a multipolygon.
     #[tactic(auto, unfolding(crate::specs::Steps::polygon))]
-    fn polygon(&mut self, token: &Word<'_>) -> Result<(), ZoneFault>
+    fn polygon(&mut self, token: &Token<'_>) -> Result<(), ZoneFault>
         ensures { Leaves result self.new (polygon self.old (seen token.now)) }
     {
         if is_word(token, b"EMPTY") {
@@ -203,18 +205,18 @@ impl Reader {
 
     /// The first number of a point.
     #[tactic(auto, unfolding(crate::specs::Steps::first))]
-    fn first(&mut self, token: &Word<'_>) -> Result<(), ZoneFault>
+    fn first(&mut self, token: &Token<'_>) -> Result<(), ZoneFault>
         requires { pending self.old.spot ≡ 0 }
         ensures { Leaves result self.new (first self.old (seen token.now)) }
     {
-        match token.sort() {
+        match sort_of(token.bytes) {
             Sort::Run => self.begun(token),
             _ => Err(ZoneFault::NotAPolygon(token.place)),
         }
     }
 
     #[tactic(auto, unfolding(crate::specs::Steps::begun))]
-    fn begun(&mut self, token: &Word<'_>) -> Result<(), ZoneFault>
+    fn begun(&mut self, token: &Token<'_>) -> Result<(), ZoneFault>
         requires { pending self.old.spot ≡ 0 }
         ensures { Leaves result self.new (begun self.old (seen token.now)) }
     {
@@ -230,18 +232,18 @@ impl Reader {
 
     /// The second number of a point.
     #[tactic(auto, unfolding(crate::specs::Steps::second))]
-    fn second(&mut self, token: &Word<'_>) -> Result<(), ZoneFault>
+    fn second(&mut self, token: &Token<'_>) -> Result<(), ZoneFault>
         requires { pending self.old.spot ≡ 1 }
         ensures { Leaves result self.new (second self.old (seen token.now)) }
     {
-        match token.sort() {
+        match sort_of(token.bytes) {
             Sort::Run => self.ended(token),
             _ => Err(ZoneFault::NotAPolygon(token.place)),
         }
     }
 
     #[tactic(auto, unfolding(crate::specs::Steps::ended))]
-    fn ended(&mut self, token: &Word<'_>) -> Result<(), ZoneFault>
+    fn ended(&mut self, token: &Token<'_>) -> Result<(), ZoneFault>
         requires { pending self.old.spot ≡ 1 }
         ensures { Leaves result self.new (ended self.old (seen token.now)) }
     {
@@ -254,18 +256,18 @@ impl Reader {
 
     /// A third number, which is dropped, or what stands behind a point.
     #[tactic(auto, unfolding(crate::specs::Steps::third))]
-    fn third(&mut self, token: &Word<'_>) -> Result<(), ZoneFault>
+    fn third(&mut self, token: &Token<'_>) -> Result<(), ZoneFault>
         requires { pending self.old.spot ≡ 0 }
         ensures { Leaves result self.new (third self.old (seen token.now)) }
     {
-        match token.sort() {
+        match sort_of(token.bytes) {
             Sort::Run => self.height(token),
             _ => self.point_end(token),
         }
     }
 
     #[tactic(auto, unfolding(crate::specs::Steps::dropped, crate::specs::Coordinates::height))]
-    fn height(&mut self, token: &Word<'_>) -> Result<(), ZoneFault>
+    fn height(&mut self, token: &Token<'_>) -> Result<(), ZoneFault>
         ensures { Leaves result self.new (dropped self.old (seen token.now)) }
     {
         if !is_number(token.bytes) {
@@ -277,11 +279,11 @@ impl Reader {
 
     /// Behind a point.
     #[tactic(auto, unfolding(crate::specs::Steps::point_end))]
-    fn point_end(&mut self, token: &Word<'_>) -> Result<(), ZoneFault>
+    fn point_end(&mut self, token: &Token<'_>) -> Result<(), ZoneFault>
         requires { pending self.old.spot ≡ 0 }
         ensures { Leaves result self.new (point_end self.old (seen token.now)) }
     {
-        match token.sort() {
+        match sort_of(token.bytes) {
             Sort::Comma => {
                 self.spot = Spot::First;
                 Ok(())
@@ -312,10 +314,10 @@ impl Reader {
 
     /// Behind a ring.
     #[tactic(auto, unfolding(crate::specs::Steps::ring_end))]
-    fn ring_end(&mut self, token: &Word<'_>) -> Result<(), ZoneFault>
+    fn ring_end(&mut self, token: &Token<'_>) -> Result<(), ZoneFault>
         ensures { Leaves result self.new (ring_end self.old (seen token.now)) }
     {
-        match token.sort() {
+        match sort_of(token.bytes) {
             Sort::Comma => {
                 self.spot = Spot::Ring;
                 Ok(())
@@ -334,10 +336,10 @@ impl Reader {
 
     /// Behind a polygon in a multipolygon.
     #[tactic(auto, unfolding(crate::specs::Steps::polygon_end))]
-    fn polygon_end(&mut self, token: &Word<'_>) -> Result<(), ZoneFault>
+    fn polygon_end(&mut self, token: &Token<'_>) -> Result<(), ZoneFault>
         ensures { Leaves result self.new (polygon_end self.old (seen token.now)) }
     {
-        match token.sort() {
+        match sort_of(token.bytes) {
             Sort::Comma => {
                 self.spot = Spot::Polygon;
                 Ok(())
@@ -352,14 +354,14 @@ impl Reader {
 }
 
 /// Whether a token is a word, in any case.
-fn is_word(token: &Word<'_>, word: &[u8]) -> bool
+fn is_word(token: &Token<'_>, word: &[u8]) -> bool
     ensures { result ≡ str_eq_ignore_ascii_case token.now.bytes.now word.now }
 {
     token.bytes.eq_ignore_ascii_case(word)
 }
 
 #[tactic(auto, unfolding(crate::specs::Coordinates::degrees))]
-fn degrees(token: &Word<'_>, limit: u64) -> Result<i128, ZoneFault>
+fn degrees(token: &Token<'_>, limit: u64) -> Result<i128, ZoneFault>
     requires { limit ≤ 1_000_000_000_000_000 }
     ensures value { result ≡ degrees limit (seen token.now) }
     ensures range { IfOk result (λ n. unsigned_abs n ≤ limit) }
@@ -373,7 +375,7 @@ fn degrees(token: &Word<'_>, limit: u64) -> Result<i128, ZoneFault>
 
 /// A longitude, in 10^-12 degrees.
 #[tactic(auto, unfolding(crate::specs::Coordinates::longitude))]
-fn longitude(token: &Word<'_>) -> Result<i128, ZoneFault>
+fn longitude(token: &Token<'_>) -> Result<i128, ZoneFault>
     ensures value { result ≡ longitude (seen token.now) }
     ensures range { IfOk result IsLongitude }
 {
@@ -385,7 +387,7 @@ fn longitude(token: &Word<'_>) -> Result<i128, ZoneFault>
 }
 
 /// A latitude, in 10^-12 degrees.
-fn latitude(token: &Word<'_>) -> Result<i128, ZoneFault>
+fn latitude(token: &Token<'_>) -> Result<i128, ZoneFault>
     ensures value { result ≡ latitude (seen token.now) }
     ensures range { IfOk result IsLatitude }
 {

@@ -3,7 +3,8 @@ use Rattle.std.proofs.lemmas.Bool.Decides.{nat_tests}
 use Rattle.std.proofs.lemmas.List.Elements.{All-push}
 use Rattle.ldp_heights.specs.Grid.{IsHeight}
 use Rattle.ldp_heights.specs.Reading.{height_of, heights_from}
-use Rattle.ldp_heights.specs.Seen.{seen, ahead}
+use Rattle.ldp_tokens.specs.Seen.{seen}
+use Rattle.ldp_heights.specs.Seen.{ahead}
 use Rattle.ldp_heights.proofs.Pairs.{ahead_next}
 use Rattle.ldp_heights.proofs.Fronts.{with_front, longer_by_one, front_step, front_few, front_whole}
 use Rattle.ldp_heights.proofs.read.read_places.Goals as goal
@@ -19,7 +20,7 @@ loop-next-preserved c =
     let missing = c.args.layout.now.missing in
     let front = c.loop-next.heights.items in
     let pushed = c.push.new.self.items in
-    let token = seen c.in-Some.run' in
+    let token = seen c.in-Some.token in
     let height = c.in_ok-height.height in
     let items : pushed ≡ front ++ height ∷ [] = c.in_ok-push.ensures.items in
     let longer : length pushed ≡ length front + 1 = rw items (longer_by_one front height) in

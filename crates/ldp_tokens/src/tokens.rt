@@ -1,67 +1,65 @@
 ghost use Rattle.std.specs.Prelude.{◌≡◌, ◌≤◌, [], ◌∷◌, length, nat_eq, IsTrue, MatchOption};
 ghost use Rattle.std.specs.List.{prefix_len, position_or_len, starts_with};
-ghost use Rattle.ldp_zone.specs.Tokens.{is_white, is_sign, ends_run, token_len, mark, tokens_of, sort_of};
+ghost use Rattle.ldp_tokens.specs.Tokens.{is_white, is_sign, ends_run, token_len, mark, tokens_of};
+ghost use Rattle.ldp_tokens.specs.Seen.{seen};
 
 use std::marker::Model;
 
 /// A sign, or a run of bytes that are no sign and no white space.
 #[derive(Clone, Copy)]
-pub struct Word<'a> {
-    /// The place of its first byte in the text.
+pub struct Token<'a> {
+    /// The place of its first byte in the text, counted from 0.
     pub place: usize,
     pub bytes: &'a [u8],
-}
-
-/// The three signs, and runs.
-#[derive(Clone, Copy)]
-pub enum Sort {
-    Open,
-    Close,
-    Comma,
-    Run,
 }
 
 /// A reader of the tokens of a text, seen as the list of those that are left.
 #[derive(Drop)]
 pub struct Tokens<'a> {
     text: &'a [u8],
+    signs: &'a [u8],
     place: usize,
 }
 
 impl<'a> Model for Tokens<'a> {
     ghost use Rattle.std.specs.Prelude.{List, ◌+◌, ◌<◌, ◌^◌, length};
-    ghost use Rattle.ldp_zone.specs.Tokens.{Token, tokens};
+    ghost use Rattle.ldp_tokens.specs.Tokens.{Token, tokens};
 
     ghost Value = { List Token };
 
-    ghost view = { λ reader. tokens reader.place reader.text.now };
+    ghost view = { λ reader. tokens reader.signs.now reader.place reader.text.now };
 
     ghost invariant = { λ reader. reader.place + length reader.text.now < 2 ^ 64 };
 }
 
 impl<'a> Tokens<'a> {
-    /// The tokens of a whole text. A mark EF BB BF in front is skipped and counted.
-    pub fn of_text(text: &'a [u8]) -> Self
-        ensures { result ≡ tokens_of text.now }
+    /// The tokens of a whole text. A mark EF BB BF in front is skipped and counted. A sign that is white space counts as white space.
+    pub fn of_text(text: &'a [u8], signs: &'a [u8]) -> Self
+        ensures { result ≡ tokens_of signs.now text.now }
     {
         if begins_with_mark(text) {
             let (_, rest) = text.split_at(3);
             Tokens {
                 text: rest,
+                signs,
                 place: 3,
             }
         } else {
-            Tokens { text, place: 0 }
+            Tokens {
+                text,
+                signs,
+                place: 0,
+            }
         }
     }
 
     /// Takes the first token that is left.
-    pub fn next(&mut self) -> Option<Word<'a>>
-        ensures { MatchOption result (self.old ≡ []) (λ word. self.old ≡ record { place = word.place; bytes = word.bytes.now } ∷ self.new) }
+    pub fn next(&mut self) -> Option<Token<'a>>
+        ensures { MatchOption result (self.old ≡ []) (λ token. self.old ≡ seen token ∷ self.new) }
     {
         let gap = white_len(self.text);
         let (_, text) = self.text.split_at(gap);
-        let length = token_len(text);
+        let length = token_len(self.signs, text);
         let (bytes, rest) = text.split_at(length);
         let place = self.place + gap;
         self.text = rest;
@@ -69,30 +67,7 @@ impl<'a> Tokens<'a> {
         if text.is_empty() {
             return None;
         }
-        Some(Word { place, bytes })
-    }
-}
-
-impl Word<'_> {
-    pub fn sort(&self) -> Sort
-        ensures { result ≡ sort_of self.now.bytes.now }
-    {
-        sort_of(self.bytes)
-    }
-}
-
-#[tactic(auto, unfolding(crate::specs::Tokens::sort_of))]
-fn sort_of(bytes: &[u8]) -> Sort
-    ensures { result ≡ sort_of bytes.now }
-{
-    match bytes {
-        [] => Sort::Run,
-        [first, ..] => match *first {
-            b'(' => Sort::Open,
-            b')' => Sort::Close,
-            b',' => Sort::Comma,
-            _ => Sort::Run,
-        },
+        Some(Token { place, bytes })
     }
 }
 
@@ -113,28 +88,30 @@ fn white_len(text: &[u8]) -> usize
 }
 
 /// The length of the token that a text begins with.
-fn token_len(text: &[u8]) -> usize
-    ensures value { result ≡ token_len text.now }
+fn token_len(signs: &[u8], text: &[u8]) -> usize
+    ensures value { result ≡ token_len signs.now text.now }
     ensures within { result ≤ length text.now }
 {
     match text {
-        [first, ..] if is_sign(*first) => 1,
-        _ => run_len(text),
+        [first, ..] if is_sign(signs, *first) => 1,
+        _ => run_len(signs, text),
     }
 }
 
 /// How many bytes stand before the first white space or sign of a text.
-fn run_len(text: &[u8]) -> usize
-    ensures value { result ≡ position_or_len ends_run text.now }
+fn run_len(signs: &[u8], text: &[u8]) -> usize
+    ensures value { result ≡ position_or_len (ends_run signs.now) text.now }
     ensures within { result ≤ length text.now }
 {
-    text.iter().take_while(|byte| !ends_run(**byte)).count()
+    text.iter()
+        .take_while(|byte| !ends_run(signs, **byte))
+        .count()
 }
 
-fn ends_run(byte: u8) -> bool
-    ensures { result ≡ ends_run byte }
+fn ends_run(signs: &[u8], byte: u8) -> bool
+    ensures { result ≡ ends_run signs.now byte }
 {
-    is_white(byte) || is_sign(byte)
+    is_white(byte) || is_sign(signs, byte)
 }
 
 fn is_white(byte: u8) -> bool
@@ -143,8 +120,9 @@ fn is_white(byte: u8) -> bool
     matches!(byte, b' ' | b'\t' | b'\n' | b'\r')
 }
 
-fn is_sign(byte: u8) -> bool
-    ensures { result ≡ is_sign byte }
+fn is_sign(signs: &[u8], byte: u8) -> bool
+    ensures { result ≡ is_sign signs.now byte }
 {
-    matches!(byte, b'(' | b')' | b',')
+    // There are few signs, so a plain loop takes less time than `contains`, which goes by groups of elements.
+    signs.iter().any(|sign| *sign == byte)
 }
