@@ -1,5 +1,5 @@
 -- What every list of cells keeps: there are at most 200,000, and each centre is in the range of a zone's points.
-use Rattle.std.specs.Prelude.{ℕ, ◌≤◌, length, All}
+use Rattle.std.specs.Prelude.{◌≤◌, length, All}
 use Rattle.ldp_zone.specs.Area.{IsLongitude, IsLatitude}
 use Rattle.ldp_cells.specs.Cells.{CellList}
 use Rattle.ldp_cells.specs.declared.cell.Cell.{Cell}

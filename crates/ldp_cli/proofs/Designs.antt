@@ -1,5 +1,5 @@
 -- The worst of the transverse Mercator design that is asked for.
-use Rattle.std.proofs.Common.{◌≡◌, ℤ, length, map, refl, ap, subst, ◌∙◌}
+use Rattle.std.proofs.Common.{◌≡◌, ℤ, length, refl, ap, subst, ◌∙◌}
 use Rattle.std.proofs.lemmas.List.{length-map}
 use Rattle.ldp_tm.specs.TransverseMercator.{transverse_mercator}
 use Rattle.ldp_series.specs.declared.list.Lists.{Lists}

@@ -1,6 +1,5 @@
-ghost use Rattle.std.specs.Prelude.{◌≡◌, ℕ, ◌+◌, ◌<◌, ◌≤◌, ◌^◌, IsTrue, Some, IfOk, IfErr, IfSome, length, option_map};
+ghost use Rattle.std.specs.Prelude.{◌≡◌, ◌+◌, ◌<◌, ◌≤◌, ◌^◌, IsTrue, IfOk, IfErr, IfSome, length};
 ghost use Rattle.ldp_io.specs.Count.{Later, Rose};
-ghost use Rattle.ldp_io.specs.Shelf.{Files};
 
 use ldp_io::{Next, Opened, Shelf};
 use std::alloc::{AllocError, Global};

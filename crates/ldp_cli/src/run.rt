@@ -1,4 +1,4 @@
-ghost use Rattle.std.specs.Prelude.{◌≡◌, ◌≢◌, ◌≤◌, ◌↔◌, ◌⊎◌, ℕ, [], ◌∷◌, None, Ok, Err, IsOk, IfSome, IfErr, map, string_bytes};
+ghost use Rattle.std.specs.Prelude.{◌≡◌, ◌≢◌, ◌↔◌, ◌⊎◌, ℕ, [], ◌∷◌, None, Ok, Err, IsOk, IfSome, IfErr, map, string_bytes};
 ghost use Rattle.ldp_io.specs.Count.{Rose};
 ghost use Rattle.ldp_cli.specs.Request.{request};
 ghost use Rattle.ldp_cli.specs.Outcome.{outcome, status_of, text_of};

@@ -1,4 +1,4 @@
-ghost use Rattle.std.specs.Prelude.{◌≡◌, ℕ, ◌≤◌, ◌⊎◌, length};
+ghost use Rattle.std.specs.Prelude.{◌≡◌, ◌≤◌, length};
 ghost use Rattle.ldp_io.specs.Count.{Rose};
 ghost use Rattle.ldp_cli.specs.Clauses.{GrowsBy};
 

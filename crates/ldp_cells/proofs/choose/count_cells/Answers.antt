@@ -1,5 +1,5 @@
 use Rattle.std.proofs.Common.{is_some, ap, sym, ◌∙◌, arith}
-use Rattle.ldp_cells.specs.Cells.{cell_of, is_gap}
+use Rattle.ldp_cells.specs.Cells.{cell_of}
 use Rattle.ldp_cells.specs.Regions.{test_of}
 use Rattle.ldp_cells.specs.declared.site.Site.{Site}
 use Rattle.ldp_cells.proofs.Sites.{no_cells, one_cell, other_cell, cells_counted}

@@ -1,5 +1,5 @@
-use Rattle.std.proofs.Common.{is_some, ap, sym, ◌∙◌, arith}
-use Rattle.ldp_cells.specs.Cells.{cell_of, is_gap}
+use Rattle.std.proofs.Common.{ap, sym, ◌∙◌, arith}
+use Rattle.ldp_cells.specs.Cells.{is_gap}
 use Rattle.ldp_cells.specs.Regions.{test_of}
 use Rattle.ldp_cells.specs.declared.site.Site.{Site}
 use Rattle.ldp_cells.proofs.Sites.{no_gaps, one_gap, other_gap, gaps_counted}
