@@ -5,16 +5,16 @@ ghost use Rattle.ldp_cells.specs.Range.{IsInRange};
 use ldp_cells::Cell;
 use ldp_num::{Fix, eta, radians};
 
-/// The inputs of a design list: angles in radians and the scale factor, all in units of 10^-15.
+/// The inputs of a design list: angles in radians and the scale factor, all in units of 10^-15 (Snyder PP 1395, chapters 8, 9 and 15).
 #[derive(Clone, Copy, Debug, PartialEq, Eq)]
 pub struct Inputs {
-    /// The latitude of the origin or of the standard parallel.
+    /// The latitude of the standard parallel (Lambert) or of the centre (Hotine).
     pub lat: i128,
-    /// The longitude of the central meridian or of the centre.
+    /// The longitude of the central meridian (transverse Mercator) or of the centre (Hotine).
     pub lon: i128,
-    /// The azimuth of the central line, clockwise from north.
+    /// The azimuth of the central line at the centre (Hotine), clockwise from north.
     pub azimuth: i128,
-    /// The scale factor on the central line.
+    /// The scale factor on the central meridian, on the standard parallel or at the centre.
     pub scale: i128,
 }
 
