@@ -134,7 +134,7 @@ fn distortion_range(
 }
 
 /// The radian units of whole degrees.
-fn angle(rt: &impl Abort, degrees: i128) -> i128
+pub fn angle(rt: &impl Abort, degrees: i128) -> i128
     ensures { IsNumber result }
 {
     assert!(rt; -360 <= degrees && degrees <= 360);

@@ -1,8 +1,12 @@
+ghost use Rattle.ldp_distortion.specs.Inputs.{AreNumbers};
+
+use crate::tests::projections::angle;
 use ldp_cells::area_cells;
 use ldp_distortion::{Inputs, Prepared, Worst};
 use ldp_heights::read_heights;
-use ldp_num::{Bench, radians};
+use ldp_num::Bench;
 use ldp_tm::lists;
+use std::process::Abort;
 use std::test::Fail;
 
 /// Cells at longitude -115°, -110° and -105°, on the equator.
@@ -55,25 +59,30 @@ const CASES: [Case; 4] = [
     },
 ];
 
+fn inputs_of(rt: &impl Abort, case: &Case) -> Inputs
+    ensures { AreNumbers result }
+{
+    assert!(rt; 0 <= case.scale && case.scale <= 2_000_000_000_000_000);
+    Inputs {
+        lat: 0,
+        lon: angle(rt, case.meridian),
+        azimuth: 0,
+        scale: case.scale,
+    }
+}
+
 #[test]
 fn distortions_and_worsts(rt: HostRuntime) -> Result<(), Fail> {
     let cells = area_cells(rt.alloc(), &read_heights(rt.alloc(), THREE_CELLS)?)?;
     assert_eq!(rt; cells.len(), 3);
     let prepared = Prepared::new(rt.alloc(), lists(rt.alloc())?, &cells)?;
     for case in CASES {
-        assert!(rt; -180 <= case.meridian && case.meridian <= 360);
-        assert!(rt; 0 <= case.scale && case.scale <= 2_000_000_000_000_000);
         let mut bench = Bench::with_room(rt.alloc(), 4096)?;
-        let at = Inputs {
-            lat: 0,
-            lon: radians(case.meridian * 1_000_000_000_000),
-            azimuth: 0,
-            scale: case.scale,
-        };
-        assert_eq!(rt; prepared.worst(&mut bench, at), case.worst);
-        assert_eq!(rt; prepared.delta(&mut bench, at, 0), case.distortions[0]);
-        assert_eq!(rt; prepared.delta(&mut bench, at, 1), case.distortions[1]);
-        assert_eq!(rt; prepared.delta(&mut bench, at, 2), case.distortions[2]);
+        let at = inputs_of(&rt, &case);
+        assert_eq!(&rt; prepared.worst(&mut bench, at), case.worst);
+        assert_eq!(&rt; prepared.delta(&mut bench, at, 0), case.distortions[0]);
+        assert_eq!(&rt; prepared.delta(&mut bench, at, 1), case.distortions[1]);
+        assert_eq!(&rt; prepared.delta(&mut bench, at, 2), case.distortions[2]);
     }
     Ok(())
 }
