@@ -1,10 +1,16 @@
--- A ring that is found closed ends where it begins.
-use Rattle.std.proofs.Common.{◌≡◌, ◌-◌, Bool, true, false, ◌&&◌, ℤ, List, length, slice_get, Option, Some, None, refl, ap, ◌∙◌}
+-- A ring takes one point more; and one that is found closed ends where it begins.
+use Rattle.std.proofs.Common.{◌≡◌, ◌≤◌, ◌+◌, ◌-◌, Bool, true, false, ◌&&◌, ℤ, List, [], ◌∷◌, ◌++◌, length, slice_get, Option, Some, None, arith, refl, ap, ◌∙◌}
 use Rattle.std.specs.Ordering.{int_eq}
 use Rattle.std.proofs.lemmas.Bool.Decides.{Decides-int_eq}
+use Rattle.std.proofs.lemmas.List.{length_push}
+use Rattle.std.proofs.lemmas.List.Elements.{All-push}
 use Rattle.ldp_zone.specs.Inside.{same_point}
+use Rattle.ldp_zone.specs.Area.{IsNear, point_count}
 use Rattle.ldp_zone.specs.Grammar.{same_ends, is_closed}
+use Rattle.ldp_zone.specs.Seen.{IsProgress, pending}
+use Rattle.ldp_zone.specs.Steps.{Progress}
 use Rattle.ldp_zone.specs.declared.point.Point.{Point}
+use Rattle.ldp_zone.specs.declared.spot.Spot.TheVariants as spots
 
 left : (a b : Bool) → (a && b) ≡ true → a ≡ true
 left true b e = refl
@@ -30,3 +36,17 @@ ends None b e = absurd cc
 pub closed_ends : (ring : List Point) → is_closed ring ≡ true → slice_get ring 0 ≡ slice_get ring (length ring - 1)
 unfolding is_closed
 closed_ends ring e = ends (slice_get ring 0) (slice_get ring (length ring - 1)) e
+
+-- one point more of the ring that is open
+pub point_more : (p : Progress) (ring : List Point) (point : Point) → IsProgress p → pending p.spot ≡ 1 → IsNear point
+    → ring ≡ p.ring ++ point ∷ [] → IsProgress record p { spot = spots.Third; ring = ring }
+point_more p ring point kept second near more =
+    let one : length ring ≡ length p.ring + 1 = ap length more ∙ length_push p.ring point in
+    let few : point_count p.rings + length p.ring + pending p.spot ≤ p.count = kept.few in
+    record {
+      some = kept.some;
+      few = omega arith;
+      most = kept.most;
+      near = rw more (All-push IsNear p.ring point kept.near near);
+      longitude = kept.longitude;
+    }
