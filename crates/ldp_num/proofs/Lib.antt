@@ -2,3 +2,4 @@ pub mod Floors
 pub mod Products
 pub mod Quotients
 pub mod Roots
+pub mod Listed

@@ -4,6 +4,7 @@ pub mod Plain
 pub mod Ranges
 pub mod Written
 pub mod Steps
+pub mod StepList
 pub mod Units
 pub mod Bench
-pub mod Listed
+pub mod Laws

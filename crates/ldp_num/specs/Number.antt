@@ -1,20 +1,21 @@
--- Numbers: a whole n of at most 10^19 in absolute value, which stands for n / 10^15. (Own choice of this project.)
-use Rattle.std.specs.Prelude.{◌&&◌, int_le, ℕ, Bool, ℤ, pos, negsuc, ◌≤ℤ◌, Option, Some, None, if◌then◌else◌}
+-- Numbers: a whole n of at most 10^19 in absolute value, which stands for n / 10^15. (Own choice of
+-- this project.)
+use Rattle.std.specs.Prelude.{◌&&◌, ◌^◌, int_le, ℕ, Bool, ℤ, pos, neg_ℤ, ◌≤ℤ◌, Option, Some, None, if◌then◌else◌}
 
 -- the units that make one
 abbrev pub one : ℕ
-one = 1000000000000000
+one = 10 ^ 15
 
 -- the greatest number
 abbrev pub limit : ℕ
-limit = 10000000000000000000
+limit = 10 ^ 19
 
 pub record IsNumber (z : ℤ) : Type 0 where
-  pub low : negsuc 9999999999999999999 ≤ℤ z
+  pub low : neg_ℤ (pos limit) ≤ℤ z
   pub high : z ≤ℤ pos limit
 
 abbrev pub is_number : ℤ → Bool
-is_number z = int_le (negsuc 9999999999999999999) z && int_le z (pos limit)
+is_number z = int_le (neg_ℤ (pos limit)) z && int_le z (pos limit)
 
 -- z where it is a number
 abbrev pub number : ℤ → Option ℤ

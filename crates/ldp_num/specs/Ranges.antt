@@ -1,5 +1,5 @@
--- The range operations. A range is a pair of numbers, low ≤ high, that stands for all numbers between.
--- (Own choice of this project; interval arithmetic, rounded down at both ends.)
+-- The range operations. A range is a pair of numbers, low ≤ high, that stands for all numbers
+-- between. (Own choice of this project; interval arithmetic, rounded down at both ends.)
 use Rattle.std.specs.Prelude.{◌≤ℤ◌, int_le, ℤ, pos, List, [], ◌∷◌, Option, Some, None, option_map, option_and_then, if◌then◌else◌}
 use Rattle.std.specs.Int.{int_min, int_max}
 use Rattle.ldp_num.specs.Number.{IsNumber}
@@ -14,13 +14,14 @@ pub record IsRange (low high : ℤ) : Type 0 where
 abbrev pub ends : Option ℤ → Option ℤ → Option (ℤ × ℤ)
 ends low high = option_and_then (λ l. option_map (λ h. (l, h)) high) low
 
-abbrev pub least : ℤ → List ℤ → ℤ
-least x [] = x
-least x (y ∷ ys) = int_min x (least y ys)
+-- the least and the greatest of x and those of a list
+abbrev pub minimum : ℤ → List ℤ → ℤ
+minimum x [] = x
+minimum x (y ∷ ys) = int_min x (minimum y ys)
 
-abbrev pub greatest : ℤ → List ℤ → ℤ
-greatest x [] = x
-greatest x (y ∷ ys) = int_max x (greatest y ys)
+abbrev pub maximum : ℤ → List ℤ → ℤ
+maximum x [] = x
+maximum x (y ∷ ys) = int_max x (maximum y ys)
 
 -- the values of a list, where all are defined
 abbrev pub all_defined : List (Option ℤ) → Option (List ℤ)
@@ -30,7 +31,7 @@ all_defined (x ∷ xs) = option_and_then (λ v. option_map (λ vs. v ∷ vs) (al
 -- from the least to the greatest
 abbrev pub span : List ℤ → Option (ℤ × ℤ)
 span [] = None
-span (x ∷ xs) = Some (least x xs, greatest x xs)
+span (x ∷ xs) = Some (minimum x xs, maximum x xs)
 
 -- the least range that holds these corner results, where all are defined
 abbrev pub hull_of : List (Option ℤ) → Option (ℤ × ℤ)

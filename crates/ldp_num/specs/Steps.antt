@@ -1,4 +1,5 @@
--- A formula is a list of steps: a constant, an input, or one operation on the results of earlier steps.
+-- A formula is a list of steps: a constant, an input, or one operation on the results of earlier
+-- steps.
 use Rattle.std.specs.Prelude.{◌<◌, ℕ, ◌+◌, List, [], ◌∷◌, ◌++◌, slice_get, Option, Some, option_and_then}
 use Rattle.ldp_num.specs.declared.step.Step.{Step}
 use Rattle.ldp_num.specs.declared.step.Step.TheVariants.{Const, Input, Add, Sub, Mul, Div, Sq, Sqrt, Need}
@@ -10,7 +11,8 @@ abbrev pub at_one : {A : Type 0} → (A → Option A) → List A → ℕ → Opt
 at_one f done a = option_and_then f (slice_get done a)
 
 abbrev pub at_two : {A : Type 0} → (A → A → Option A) → List A → ℕ → ℕ → Option A
-at_two f done a b = option_and_then (λ x. option_and_then (f x) (slice_get done b)) (slice_get done a)
+at_two f done a b =
+    option_and_then (λ x. option_and_then (f x) (slice_get done b)) (slice_get done a)
 
 -- the result of a step over the inputs and the results so far
 abbrev pub step_value : {A : Type 0} → Ops A → List A → List A → Step → Option A
@@ -24,16 +26,19 @@ step_value ops inputs done (Sq a) = at_one ops.sq done a
 step_value ops inputs done (Sqrt a) = at_one ops.sqrt done a
 step_value ops inputs done (Need a) = at_one ops.need done a
 
--- the results of all steps in order, after those done; undefined where one is, also one that no result uses
+-- the results of all steps in order, after those done; undefined where one is, also one that no
+-- result uses
 abbrev pub results_from : {A : Type 0} → Ops A → List A → List A → List Step → Option (List A)
 results_from ops inputs done [] = Some done
 results_from ops inputs done (step ∷ steps) =
-    option_and_then (λ v. results_from ops inputs (done ++ v ∷ []) steps) (step_value ops inputs done step)
+    option_and_then (λ v. results_from ops inputs (done ++ v ∷ []) steps)
+    (step_value ops inputs done step)
 
 abbrev pub results_of : {A : Type 0} → Ops A → List A → List Step → Option (List A)
 results_of ops inputs steps = results_from ops inputs [] steps
 
--- a step is well formed after this many steps: its operands are earlier places, its input is there, its constant is a number
+-- a step is well formed after this many steps: its operands are earlier places, its input is there,
+-- its constant is a number
 abbrev pub StepFits : ℕ → ℕ → Step → Type 0
 StepFits inputs before (Const v) = IsNumber v
 StepFits inputs before (Input i) = i < inputs
@@ -48,4 +53,9 @@ StepFits inputs before (Need a) = a < before
 -- the steps are well formed, the first of them after this many
 abbrev pub StepsFit : ℕ → ℕ → List Step → Type 0
 StepsFit inputs before [] = Unit {0}
-StepsFit inputs before (step ∷ steps) = StepFits inputs before step × StepsFit inputs (before + 1) steps
+StepsFit inputs before (step ∷ steps) =
+    StepFits inputs before step × StepsFit inputs (before + 1) steps
+
+-- the most steps that a list has
+abbrev pub most_steps : ℕ
+most_steps = 4096

@@ -1,5 +1,6 @@
--- The written operations of each carrier. What a carrier's value means is a list of numbers: carrier 0 is the plain
--- number, a list of one; carrier 1 is the range, a list of its low and its high end.
+-- The written operations of each carrier. What a carrier's value means is a list of numbers:
+-- carrier 0 is the plain number, a list of one; carrier 1 is the range, a list of its low and its
+-- high end.
 use Rattle.std.specs.Prelude.{ℕ, zero, suc, ℤ, List, [], ◌∷◌, Option, Some, None, option_map, option_and_then}
 use Rattle.ldp_num.specs.Plain.{plain_add, plain_sub, plain_mul, plain_div, plain_sq, plain_sqrt, plain_need}
 use Rattle.ldp_num.specs.Ranges.{pair_add, pair_sub, pair_mul, pair_div, pair_sq, pair_sqrt, pair_need}
@@ -42,11 +43,14 @@ range_ops = record {
 }
 
 -- an operation of one value, and of two, over the lists of numbers that they mean
-abbrev pub of_one : {A : Type 0} → (List ℤ → Option A) → (A → List ℤ) → (A → Option A) → List ℤ → Option (List ℤ)
+abbrev pub of_one : {A : Type 0} → (List ℤ → Option A) → (A → List ℤ) → (A → Option A)
+    → List ℤ → Option (List ℤ)
 of_one from out f xs = option_map out (option_and_then f (from xs))
 
-abbrev pub of_two : {A : Type 0} → (List ℤ → Option A) → (A → List ℤ) → (A → A → Option A) → List ℤ → List ℤ → Option (List ℤ)
-of_two from out f xs ys = option_map out (option_and_then (λ a. option_and_then (f a) (from ys)) (from xs))
+abbrev pub of_two : {A : Type 0} → (List ℤ → Option A) → (A → List ℤ) → (A → A → Option A)
+    → List ℤ → List ℤ → Option (List ℤ)
+of_two from out f xs ys =
+    option_map out (option_and_then (λ a. option_and_then (f a) (from ys)) (from xs))
 
 -- the same operations over the lists of numbers that the values mean
 abbrev pub listed : {A : Type 0} → (List ℤ → Option A) → (A → List ℤ) → Ops A → Ops (List ℤ)

@@ -1,6 +1,6 @@
 ghost use Rattle.std.specs.Prelude.{◌≡◌, ◌≤◌, ◌<◌, length, map, take, Some, None, IfOk, if◌then◌else◌, slice_get, [], option_map};
 ghost use Rattle.std.specs.Bool.{OnTrue, OnFalse};
-ghost use Rattle.ldp_num.specs.Steps.{StepFits, StepsFit, step_value, results_of};
+ghost use Rattle.ldp_num.specs.Steps.{StepFits, StepsFit, step_value, results_of, most_steps};
 ghost use Rattle.ldp_num.specs.Written.{written};
 
 use crate::Memory;
@@ -22,7 +22,10 @@ impl<N: Num> Model for Bench<N> {
 
     ghost Value = { BenchView N };
 
-    ghost view = { λ b. record { room = length b.places.items; results = take b.count b.places.items } };
+    ghost view = { λ b. record {
+      room = length b.places.items;
+      results = take b.count b.places.items;
+    } };
 
     ghost invariant = { λ b. b.count ≤ length b.places.items };
 }
@@ -30,7 +33,7 @@ impl<N: Num> Model for Bench<N> {
 impl<N: Num> Bench<N> {
     /// A bench of this many places, with no run.
     pub fn with_room(alloc: Global, room: usize) -> Result<Bench<N>, Memory>
-        requires { room ≤ 4096 }
+        requires { room ≤ most_steps }
         ensures room { IfOk result (λ b. b.room ≡ room) }
         ensures results { IfOk result (λ b. b.results ≡ []) }
     {
@@ -45,8 +48,8 @@ impl<N: Num> Bench<N> {
         self.places.len()
     }
 
-    /// Runs the steps over the inputs: true exactly where every step is defined, also one that no result uses. `at` then
-    /// reads the results. After false there is none.
+    /// Runs the steps over the inputs: true exactly where every step is defined, also one that no
+    /// result uses. `at` then reads the results. After false there is none.
     pub fn run(&mut self, steps: &[Step], inputs: &[N]) -> bool
         requires fit { StepsFit (length inputs.now) 0 steps.now }
         requires room { length steps.now ≤ self.old.room }

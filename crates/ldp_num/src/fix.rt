@@ -6,6 +6,7 @@ use crate::{plain, product, quotient, root};
 /// A plain number, carrier 0, in units of 10^-15.
 #[derive(Clone, Copy, Debug, PartialEq, Eq)]
 pub struct Fix {
+    /// The number, in units of 10^-15, at most 10^19 in absolute value.
     pub n: i128,
     pub ghost in_range: { IsNumber n },
 }

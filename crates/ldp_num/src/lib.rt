@@ -7,6 +7,7 @@ mod bench;
 mod carrier;
 mod exact;
 mod fix;
+pub mod laws;
 mod plain;
 mod product;
 mod quotient;
@@ -22,8 +23,5 @@ pub use product::{mul, sq};
 pub use quotient::div;
 pub use root::sqrt;
 pub use std::alloc::AllocError as Memory;
-pub use step::Step;
+pub use step::{MOST_STEPS, Step};
 pub use units::{eta, radians};
-
-#[cfg(test)]
-mod tests;

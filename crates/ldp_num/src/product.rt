@@ -16,7 +16,8 @@ const BIAS: i128 = 2_305_843_009_213_693_952_000_000_000_000_000;
 /// 2^61.
 const OFFSET: i128 = 2_305_843_009_213_693_952;
 
-// (high * 2^64 + low) / 10^15, rounded down: a multiplication by the reciprocal gives it or one less.
+// (high * 2^64 + low) / 10^15, rounded down: a multiplication by the reciprocal gives it or one
+// less.
 #[inline(always)]
 fn units(high: u64, low: u64) -> u64
     requires { high < 2 ^ 48 }
@@ -58,7 +59,7 @@ pub fn mul(a: i128, b: i128) -> Option<i128>
     wide_product(a, b)
 }
 
-// The same for products that no formula of a projection reaches.
+// The same for products beyond some 2 * 10^18 units, which do not fit the form above.
 #[cold]
 #[inline(never)]
 fn wide_product(a: i128, b: i128) -> Option<i128>

@@ -4,8 +4,9 @@ ghost use Rattle.ldp_num.specs.Plain.{floor_div, plain_div};
 
 use crate::exact::{ONE, checked, exact, floor_of, upper};
 
-// 256/99, 64/11 and 140/33 in units of 2^-60, each less by a part in 97: the parabola 140/33 - 64/11 x + 256/99 x^2 is
-// within a part in 99 of 1/x from 1/2 to 1, and what is made of it here is never above.
+// 256/99, 64/11 and 140/33 in units of 2^-60, each less by a part in 97: the parabola 140/33 -
+// 64/11 x + 256/99 x^2 is within a part in 99 of 1/x from 1/2 to 1, and what is made of it here is
+// never above.
 const SQUARE: u64 = 2_950_575_629_983_980_193;
 
 const LINEAR: u64 = 6_638_795_167_463_955_435;
@@ -15,7 +16,8 @@ const CONSTANT: u64 = 4_840_788_142_942_467_505;
 // 10^15 * 2^14
 const ONE_RAISED: u64 = 16_384_000_000_000_000_000;
 
-// An estimate of 2^126 / d, for d of at least 2^63: the series of 1 / (1 - e) over the parabola. Nothing is claimed of it.
+// An estimate of 2^126 / d, for d of at least 2^63: the series of 1 / (1 - e) over the parabola.
+// Nothing is claimed of it.
 #[inline(always)]
 fn reciprocal(d: u64) -> u64 {
     let start = CONSTANT.wrapping_sub(upper(d, LINEAR.wrapping_sub(upper(d, SQUARE)))) << 2;
@@ -102,7 +104,7 @@ pub fn div(a: i128, b: i128) -> Option<i128>
     }
 }
 
-// The same where the estimate is too far off, as for a quotient of very many units.
+// The same where the estimate is too far off.
 #[cold]
 #[inline(never)]
 fn wide_quotient(a: i128, b: i128) -> Option<i128>

@@ -5,7 +5,8 @@ ghost use Rattle.ldp_num.specs.Root.{root};
 
 use crate::exact::{ONE, checked, exact, upper};
 
-// The parabola c - b x + a x^2 that is within a part in 41 of 1 / sqrt(x) from 1/4 to 1: a, b, c in units of 2^-60.
+// The parabola c - b x + a x^2 that is within a part in 41 of 1 / sqrt(x) from 1/4 to 1: a, b, c in
+// units of 2^-60.
 const SQUARE: u64 = 1_889_140_094_795_241_984;
 
 const LINEAR: u64 = 3_787_758_263_883_137_536;
@@ -73,7 +74,7 @@ pub fn sqrt(a: i128) -> Option<i128>
     }
 }
 
-// The same where the estimate is too far off, as for a root of hundreds.
+// The same where the estimate is too far off.
 #[cold]
 #[inline(never)]
 #[tactic(auto, using(crate::proofs::Roots::roots))]

@@ -11,3 +11,6 @@ pub enum Step {
     Sqrt(u16),
     Need(u16),
 }
+
+/// The most steps of a list.
+pub const MOST_STEPS: usize = 4096;

@@ -1,4 +1,4 @@
-ghost use Rattle.std.specs.Prelude.{◌≡◌, ◌≤ℤ◌, pos, negsuc};
+ghost use Rattle.std.specs.Prelude.{◌≡◌, ◌*◌, ◌^◌, ◌≤ℤ◌, pos, neg_ℤ};
 ghost use Rattle.ldp_num.specs.Number.{IsNumber};
 ghost use Rattle.ldp_num.specs.Units.{radians_of, height_number};
 
@@ -7,8 +7,8 @@ const PI: i128 = 3_141_592_653_589_793;
 
 /// An angle of 10^-12 degrees in radians, in units of 10^-15, rounded down.
 pub fn radians(angle: i128) -> i128
-    requires low { negsuc 359999999999999 ≤ℤ angle }
-    requires high { angle ≤ℤ pos 360000000000000 }
+    requires low { neg_ℤ (pos (360 * 10 ^ 12)) ≤ℤ angle }
+    requires high { angle ≤ℤ pos (360 * 10 ^ 12) }
     ensures value { result ≡ radians_of angle }
     ensures number { IsNumber result }
 {

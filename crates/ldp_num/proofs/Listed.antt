@@ -1,13 +1,15 @@
--- A law of the carriers: the results of a formula over the lists that values mean are the lists that its results mean. So
--- a run of carrier 0 is a run over numbers, and a run of carrier 1 is a run over pairs.
-use Rattle.std.specs.Prelude.{◌≡◌, ℕ, Bool, true, false, ℤ, List, [], ◌∷◌, ◌++◌, map, slice_get, Option, Some, None, option_map, option_and_then, if◌then◌else◌, refl}
+-- The results of a formula over the lists that values mean are the lists that its results mean. So a run of carrier 0 is a
+-- run over numbers, and a run of carrier 1 is a run over pairs.
+use Rattle.std.specs.Prelude.{◌≡◌, ℕ, ℤ, List, [], ◌∷◌, ◌++◌, map, slice_get, Option, Some, None, option_map, option_and_then, refl}
 use Rattle.std.proofs.Common.{◌∙◌, ap, sym}
 use Rattle.std.proofs.lemmas.Option.{slice_get-map}
 use Rattle.std.proofs.lemmas.List.{map-append}
 use Rattle.ldp_num.specs.declared.step.Step.{Step}
 use Rattle.ldp_num.specs.declared.step.Step.TheVariants.{Const, Input, Add, Sub, Mul, Div, Sq, Sqrt, Need}
-use Rattle.ldp_num.specs.Written.{Ops, of_one, of_two, listed, number_ops, range_ops, plain_in, plain_out, pair_in, pair_out, written}
+use Rattle.ldp_num.specs.Written.{Ops, of_one, of_two, listed, number_ops, range_ops, plain_in, plain_out, pair_in, pair_out}
 use Rattle.ldp_num.specs.Steps.{at_one, at_two, step_value, results_from, results_of}
+use Rattle.ldp_num.specs.StepList.{StepList, at_places, value_in}
+use Rattle.ldp_num.specs.Laws.{PlainValue, PlainTold, PairValue, PairTold}
 
 one_listed : {A : Type 0} (from : List ℤ → Option A) (out : A → List ℤ) → ((a : A) → from (out a) ≡ Some a)
     → (f : A → Option A) (x : Option A)
@@ -67,20 +69,37 @@ results_from_listed from out back ops inputs done (step ∷ steps) =
     (step_value ops inputs done step) (λ ds. results_from_listed from out back ops inputs ds steps))
 
 -- over any values: the results over what the values mean are what the results mean
-pub results_listed : {A : Type 0} (from : List ℤ → Option A) (out : A → List ℤ) → ((a : A) → from (out a) ≡ Some a)
+results_listed : {A : Type 0} (from : List ℤ → Option A) (out : A → List ℤ) → ((a : A) → from (out a) ≡ Some a)
     → (ops : Ops A) (inputs : List A) (steps : List Step)
     → results_of (listed from out ops) (map out inputs) steps ≡ option_map (map out) (results_of ops inputs steps)
 results_listed from out back ops inputs steps = results_from_listed from out back ops inputs [] steps
 
--- carrier 0 runs over numbers
-pub plain_results : (inputs : List ℤ) (steps : List Step)
-    → results_of (written 0) (map plain_out inputs) steps ≡ option_map (map plain_out) (results_of number_ops inputs steps)
-plain_results inputs steps = results_listed plain_in plain_out (λ a. refl) number_ops inputs steps
+-- the results at some places, over what the results mean
+places_listed : {A B : Type 0} (f : A → B) (results : List A) (places : List ℕ)
+    → at_places (map f results) places ≡ option_map (map f) (at_places results places)
+places_listed f results [] = refl
+places_listed {A = A} {B = B} f results (place ∷ places) =
+    rw (slice_get-map f results place, places_listed f results places)
+    (first_by (slice_get results place) (at_places results places)) where
+      first_by : (x : Option A) (xs : Option (List A))
+          → option_and_then (λ y. option_map (λ ys. y ∷ ys) (option_map (map f) xs)) (option_map f x)
+          ≡ option_map (map f) (option_and_then (λ y. option_map (λ ys. y ∷ ys) xs) x)
+      first_by None xs = refl
+      first_by (Some y) None = refl
+      first_by (Some y) (Some ys) = refl
 
--- carrier 1 runs over pairs
-pub pair_results : (inputs : List (ℤ × ℤ)) (steps : List Step)
-    → results_of (written 1) (map pair_out inputs) steps ≡ option_map (map pair_out) (results_of range_ops inputs steps)
-pair_results inputs steps = results_listed pair_in pair_out (λ a. refl) range_ops inputs steps
+-- the value of a list, over any values
+value_listed : {A : Type 0} (from : List ℤ → Option A) (out : A → List ℤ) → ((a : A) → from (out a) ≡ Some a)
+    → (ops : Ops A) (list : StepList) (inputs : List A)
+    → value_in (listed from out ops) list (map out inputs) ≡ option_map (map out) (value_in ops list inputs)
+value_listed {A = A} from out back ops list inputs =
+    rw (results_listed from out back ops inputs list.steps)
+    (places_by (results_of ops inputs list.steps)) where
+      places_by : (results : Option (List A))
+          → option_and_then (λ found. at_places found list.outs) (option_map (map out) results)
+          ≡ option_map (map out) (option_and_then (λ found. at_places found list.outs) results)
+      places_by None = refl
+      places_by (Some found) = places_listed out found list.outs
 
 -- the values that lists mean, where each list means one
 abbrev back : {A : Type 0} → (List ℤ → Option A) → List (List ℤ) → Option (List A)
@@ -97,31 +116,25 @@ back_of_results : {A : Type 0} (from : List ℤ → Option A) (out : A → List 
 back_of_results from out same None = refl
 back_of_results from out same (Some values) = back_out from out same values
 
-back_of_run : {A : Type 0} (from : List ℤ → Option A) (out : A → List ℤ) → ((a : A) → from (out a) ≡ Some a)
-    → (defined : Bool) (results : List A)
-    → option_and_then (back from) (if defined then Some (map out results) else None) ≡ (if defined then Some results else None)
-back_of_run from out same true results = back_out from out same results
-back_of_run from out same false results = refl
+-- what the value over the lists that values mean says of the value over the values
+value_told : {A : Type 0} (from : List ℤ → Option A) (out : A → List ℤ) → ((a : A) → from (out a) ≡ Some a)
+    → (ops : Ops A) (list : StepList) (inputs : List A) (found : Option (List A))
+    → value_in (listed from out ops) list (map out inputs) ≡ option_map (map out) found → value_in ops list inputs ≡ found
+value_told from out same ops list inputs found h =
+    sym (back_of_results from out same (value_in ops list inputs))
+    ∙ ap (option_and_then (back from)) (sym (value_listed from out same ops list inputs) ∙ h)
+    ∙ back_of_results from out same found
 
--- over any values: what a run over their lists says of the values
-run_of_values : {A : Type 0} (from : List ℤ → Option A) (out : A → List ℤ) → ((a : A) → from (out a) ≡ Some a)
-    → (ops : Ops A) (inputs : List A) (steps : List Step) (defined : Bool) (results : List A)
-    → results_of (listed from out ops) (map out inputs) steps ≡ (if defined then Some (map out results) else None)
-    → results_of ops inputs steps ≡ (if defined then Some results else None)
-run_of_values from out same ops inputs steps defined results h =
-    sym (back_of_results from out same (results_of ops inputs steps))
-    ∙ ap (option_and_then (back from)) (sym (results_listed from out same ops inputs steps))
-    ∙ ap (option_and_then (back from)) h
-    ∙ back_of_run from out same defined results
+-- carrier 0 runs over numbers
+pub plain_value : PlainValue
+plain_value list inputs = value_listed plain_in plain_out (λ a. refl) number_ops list inputs
 
--- what a run of carrier 0 says of the numbers
-pub plain_run : (inputs : List ℤ) (steps : List Step) (defined : Bool) (results : List ℤ)
-    → results_of (written 0) (map plain_out inputs) steps ≡ (if defined then Some (map plain_out results) else None)
-    → results_of number_ops inputs steps ≡ (if defined then Some results else None)
-plain_run inputs steps defined results h = run_of_values plain_in plain_out (λ a. refl) number_ops inputs steps defined results h
+pub plain_told : PlainTold
+plain_told list inputs found h = value_told plain_in plain_out (λ a. refl) number_ops list inputs found h
 
--- what a run of carrier 1 says of the pairs
-pub pair_run : (inputs : List (ℤ × ℤ)) (steps : List Step) (defined : Bool) (results : List (ℤ × ℤ))
-    → results_of (written 1) (map pair_out inputs) steps ≡ (if defined then Some (map pair_out results) else None)
-    → results_of range_ops inputs steps ≡ (if defined then Some results else None)
-pair_run inputs steps defined results h = run_of_values pair_in pair_out (λ a. refl) range_ops inputs steps defined results h
+-- carrier 1 runs over pairs
+pub pair_value : PairValue
+pair_value list inputs = value_listed pair_in pair_out (λ a. refl) range_ops list inputs
+
+pub pair_told : PairTold
+pair_told list inputs found h = value_told pair_in pair_out (λ a. refl) range_ops list inputs found h
