@@ -10,6 +10,8 @@ use Rattle.ldp_num.specs.Ranges.{ends, hull_of, pair_add, pair_sub, pair_mul, pa
 use Rattle.ldp_num.specs.Written.{number_ops, range_ops}
 use Rattle.ldp_range.specs.Related.{Reaches, FollowsOne, FollowsTwo, Follows}
 use Rattle.ldp_range.specs.Range.{LiesIn}
+use Rattle.ldp_range.specs.Laws.{Inclusion, StepInclusion}
+use Rattle.ldp_range.proofs.Follows.{results_follow, values_follow}
 use Rattle.ldp_range.proofs.Orders.{product, product-up, product-down, product-right-up, product-right-down, quotient, quotient-up, quotient-down, quotient-rise, root-le}
 
 -- a number between two numbers is in their range
@@ -208,9 +210,10 @@ natural-holds (pos k) (pos m) (negsuc n) l h x y e = absurd (omega (arith, ints)
 need-holds : FollowsOne LiesIn plain_need pair_need
 need-holds a b t x e = natural-holds a b.0 b.1 t.0 t.1 x.low x.high e
 
-pub numbers-lie-in : Follows LiesIn number_ops range_ops
+-- each operation at numbers of ranges
+numbers-lie-in : Follows LiesIn number_ops range_ops
 numbers-lie-in = record {
-  constant = λ v n. record { low = ≤ℤ_refl v; high = ≤ℤ_refl v };
+  constant = λ v. record { low = ≤ℤ_refl v; high = ≤ℤ_refl v };
   add = add-holds;
   sub = sub-holds;
   mul = mul-holds;
@@ -219,3 +222,9 @@ numbers-lie-in = record {
   sqrt = sqrt-holds;
   need = need-holds;
 }
+
+pub inclusion : Inclusion
+inclusion = values_follow LiesIn number_ops range_ops numbers-lie-in
+
+pub step-inclusion : StepInclusion
+step-inclusion = results_follow LiesIn number_ops range_ops numbers-lie-in

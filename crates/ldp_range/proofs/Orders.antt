@@ -8,7 +8,8 @@ use Rattle.std.proofs.lemmas.Int.{ints}
 use Rattle.std.specs.Int.Signed.{≤ℤ_refl, le_z_yes}
 use Rattle.ldp_num.specs.Number.{one}
 use Rattle.ldp_num.specs.Plain.{floor_div}
-use Rattle.ldp_num.specs.Root.{root, root-square, root-above}
+use Rattle.ldp_num.specs.Root.{root}
+use Rattle.ldp_num.proofs.Roots.{is-root}
 
 div-le-div : (a b d : ℕ) → 0 < d → a ≤ b → a / d ≤ b / d
 div-le-div a b d h k =
@@ -43,8 +44,8 @@ times-down (negsuc a) (negsuc b) (negsuc c) h l =
 
 root-le-cases : (m n : ℕ) → m ≤ n → (root n < root m) ⊎ (root m ≤ root n) → root m ≤ root n
 root-le-cases m n h (inl less) =
-    let above : n < root m * root m = root-above n (root m) less in
-    let square : root m * root m ≤ m = root-square m in
+    let above : n < root m * root m = (is-root n).above (root m) less in
+    let square : root m * root m ≤ m = (is-root m).square in
     absurd (omega arith)
 root-le-cases m n h (inr k) = k
 

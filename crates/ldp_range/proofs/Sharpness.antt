@@ -7,14 +7,18 @@ use Rattle.std.proofs.lemmas.Option.{same_Some}
 use Rattle.ldp_num.specs.Plain.{plain_sq}
 use Rattle.ldp_num.specs.Ranges.{ends, hull_of, pair_sq}
 use Rattle.ldp_num.specs.Written.{number_ops, range_ops}
+use Rattle.ldp_num.specs.Steps.{results_of}
+use Rattle.ldp_num.specs.StepList.{value, value_in}
 use Rattle.ldp_range.specs.Range.{twice}
+use Rattle.ldp_range.specs.Laws.{Sharpness, StepSharpness}
+use Rattle.ldp_range.proofs.Follows.{results_follow, values_follow}
 use Rattle.ldp_range.specs.Related.{Pairwise, Reaches, FollowsOne, FollowsTwo, Follows}
 
 -- the pair of the number, and the number of the pair
-abbrev pub IsTwice : ℤ × ℤ → ℤ → Type 0
+abbrev IsTwice : ℤ × ℤ → ℤ → Type 0
 IsTwice pair n = pair ≡ twice n
 
-abbrev pub IsHalf : ℤ → ℤ × ℤ → Type 0
+abbrev IsHalf : ℤ → ℤ × ℤ → Type 0
 IsHalf n pair = pair ≡ twice n
 
 ends-twice : (o : Option ℤ) → ends o o ≡ option_map twice o
@@ -60,9 +64,9 @@ one-half f g same a b t x e = half-reached (f a) t (sym (same a) ∙ (rw x at e)
 one-twice : (f : ℤ → Option ℤ) (g : ℤ × ℤ → Option (ℤ × ℤ)) → ((a : ℤ) → g (twice a) ≡ option_map twice (f a)) → FollowsOne IsTwice g f
 one-twice f g same b a n x e = rw (x, same a) (twice-reached (f a) n e)
 
-pub halves-follow : Follows IsHalf number_ops range_ops
+halves-follow : Follows IsHalf number_ops range_ops
 halves-follow = record {
-  constant = λ v n. refl;
+  constant = λ v. refl;
   add = two-half number_ops.add range_ops.add (λ a c. ends-twice (number_ops.add a c));
   sub = two-half number_ops.sub range_ops.sub (λ a c. ends-twice (number_ops.sub a c));
   mul = two-half number_ops.mul range_ops.mul (λ a c. hull-twice (number_ops.mul a c));
@@ -72,9 +76,9 @@ halves-follow = record {
   need = one-half number_ops.need range_ops.need (λ a. ends-twice (number_ops.need a));
 }
 
-pub twices-follow : Follows IsTwice range_ops number_ops
+twices-follow : Follows IsTwice range_ops number_ops
 twices-follow = record {
-  constant = λ v n. refl;
+  constant = λ v. refl;
   add = two-twice number_ops.add range_ops.add (λ a c. ends-twice (number_ops.add a c));
   sub = two-twice number_ops.sub range_ops.sub (λ a c. ends-twice (number_ops.sub a c));
   mul = two-twice number_ops.mul range_ops.mul (λ a c. hull-twice (number_ops.mul a c));
@@ -84,11 +88,11 @@ twices-follow = record {
   need = one-twice number_ops.need range_ops.need (λ a. ends-twice (number_ops.need a));
 }
 
-pub points-halves : (points : List ℤ) → Pairwise IsHalf points (map twice points)
+points-halves : (points : List ℤ) → Pairwise IsHalf points (map twice points)
 points-halves [] = tt
 points-halves (n ∷ ns) = (refl, points-halves ns)
 
-pub points-twices : (points : List ℤ) → Pairwise IsTwice (map twice points) points
+points-twices : (points : List ℤ) → Pairwise IsTwice (map twice points) points
 points-twices [] = tt
 points-twices (n ∷ ns) = (refl, points-twices ns)
 
@@ -99,7 +103,7 @@ twices-map (p ∷ ps) [] h = absurd h
 twices-map (p ∷ ps) (n ∷ ns) h = let tail = twices-map ps ns h.1 in rw (h.0, tail)
 
 -- two runs that follow one another both ways
-pub both-ways : (values : Option (List ℤ)) (pairs : Option (List (ℤ × ℤ)))
+both-ways : (values : Option (List ℤ)) (pairs : Option (List (ℤ × ℤ)))
     → ((ps : List (ℤ × ℤ)) → pairs ≡ Some ps → Reaches (Pairwise IsHalf) values ps)
     → ((ns : List ℤ) → values ≡ Some ns → Reaches (Pairwise IsTwice) pairs ns)
     → pairs ≡ option_map (map twice) values
@@ -108,3 +112,15 @@ both-ways None (Some ps) down up = let found = (down ps refl).is in cc
 both-ways (Some ns) pairs down up =
     let found = up ns refl in
     found.is ∙ ap Some (twices-map found.value ns found.related)
+
+pub sharpness : Sharpness
+sharpness list points =
+    both-ways (value list points) (value_in range_ops list (map twice points))
+    (λ ps e. values_follow IsHalf number_ops range_ops halves-follow list points (map twice points) ps (points-halves points) e)
+    (λ ns e. values_follow IsTwice range_ops number_ops twices-follow list (map twice points) points ns (points-twices points) e)
+
+pub step-sharpness : StepSharpness
+step-sharpness steps points =
+    both-ways (results_of number_ops points steps) (results_of range_ops (map twice points) steps)
+    (λ ps e. results_follow IsHalf number_ops range_ops halves-follow steps points (map twice points) ps (points-halves points) e)
+    (λ ns e. results_follow IsTwice range_ops number_ops twices-follow steps (map twice points) points ns (points-twices points) e)

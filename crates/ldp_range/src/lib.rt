@@ -9,6 +9,3 @@ mod range;
 mod square;
 
 pub use range::{Range, hull, sharp};
-
-#[cfg(test)]
-mod tests;
