@@ -1,27 +1,55 @@
 ghost use Rattle.std.specs.Prelude.{◌≡◌, ◌+◌, ◌<◌, ◌≤◌, length, IfOk};
-ghost use Rattle.ldp_series.specs.Draft.{Added};
-ghost use Rattle.ldp_ellipsoid.specs.Ellipsoid.{geo, meridian, ground_factor};
+ghost use Rattle.ldp_series.specs.Draft.{HasRoom, Added, Appends};
+ghost use Rattle.ldp_ellipsoid.specs.Ellipsoid.{second_eccentricity_squared, axis_ratio, geo};
+ghost use Rattle.ldp_ellipsoid.specs.Ellipsoid.{meridian, ground_factor};
 
 use crate::places::Geo;
-use ldp_series::{Build, Memory};
+use ldp_series::{Build, Memory, ONE};
 
-/// One, in units of 10^-15.
-pub(crate) const ONE: i128 = 1_000_000_000_000_000;
+/// 1/f, in units of 10^-9.
+const INVERSE_FLATTENING: i128 = 298_257_222_101;
 
-/// The square of the first eccentricity, in units of 10^-15, rounded down.
-pub(crate) const ECCENTRICITY_SQUARED: i128 = 6_694_380_022_900;
+/// The square of the first eccentricity, 2f - f², in units of 10^-15, rounded down.
+pub(crate) const ECCENTRICITY_SQUARED: i128 = ONE
+    * (2 * INVERSE_FLATTENING * 1_000_000_000 - 1_000_000_000_000_000_000)
+    / (INVERSE_FLATTENING * INVERSE_FLATTENING);
 
-/// Sine and cosine of a latitude in radians, and 1 - e² sin²φ: 140 steps.
+/// Appends the square of the second eccentricity: 5 steps.
+pub fn second_eccentricity_squared(b: &mut Build) -> Result<u16, Memory>
+    requires room { HasRoom 5 b.old }
+    ensures { IfOk result (Appends second_eccentricity_squared 5 b.old b.new) }
+{
+    let e2 = b.constant(ECCENTRICITY_SQUARED)?;
+    let one = b.whole(1)?;
+    let again = b.constant(ECCENTRICITY_SQUARED)?;
+    let rest = b.sub(one, again)?;
+    let quotient = b.div(e2, rest)?;
+    Ok(quotient)
+}
+
+/// Appends the semi-minor axis over the semi-major axis: 4 steps.
+pub fn axis_ratio(b: &mut Build) -> Result<u16, Memory>
+    requires room { HasRoom 4 b.old }
+    ensures { IfOk result (Appends axis_ratio 4 b.old b.new) }
+{
+    let one = b.whole(1)?;
+    let e2 = b.constant(ECCENTRICITY_SQUARED)?;
+    let rest = b.sub(one, e2)?;
+    let root = b.sqrt(rest)?;
+    Ok(root)
+}
+
+/// Appends sine and cosine of a latitude in radians, and 1 - e² sin²φ: 140 steps.
 pub fn geo(b: &mut Build, lat: u16) -> Result<Geo, Memory>
     requires latitude { lat < length b.old.steps }
-    requires room { length b.old.steps + 140 ≤ 4096 }
+    requires room { HasRoom 140 b.old }
     ensures ok { IfOk result (λ places. (b.new, places) ≡ geo lat b.old) }
     ensures added { IfOk result (λ places. Added 140 b.old b.new places.w) }
     ensures before { IfOk result (λ places. (places.s < places.w) × (places.c < places.w)) }
 {
     let s = b.sin(lat)?;
     let c = b.cos(lat)?;
-    let one = b.constant(ONE)?;
+    let one = b.whole(1)?;
     let e2 = b.constant(ECCENTRICITY_SQUARED)?;
     let s2 = b.sq(s)?;
     let product = b.mul(e2, s2)?;
@@ -29,32 +57,28 @@ pub fn geo(b: &mut Build, lat: u16) -> Result<Geo, Memory>
     Ok(Geo { s, c, w })
 }
 
-/// Snyder's m, the radius of the parallel over the semi-major axis: 2 steps.
+/// Appends Snyder's m, the radius of the parallel over the semi-major axis: 2 steps.
 pub fn meridian(b: &mut Build, g: Geo) -> Result<u16, Memory>
     requires cosine { g.c < length b.old.steps }
     requires w { g.w < length b.old.steps }
-    requires room { length b.old.steps + 2 ≤ 4096 }
-    ensures ok { IfOk result (λ place. (b.new, place) ≡ meridian g b.old) }
-    ensures added { IfOk result (Added 2 b.old b.new) }
+    requires room { HasRoom 2 b.old }
+    ensures { IfOk result (Appends (meridian g) 2 b.old b.new) }
 {
     let root = b.sqrt(g.w)?;
     let radius = b.div(g.c, root)?;
     Ok(radius)
 }
 
-/// The ground factor R / (R + h), from 1 - e² sin²φ and the height over the semi-major axis: 7 steps.
+/// Appends the ground factor R / (R + h), from 1 - e² sin²φ and the height over the semi-major
+/// axis: 7 steps.
 pub fn ground(b: &mut Build, w: u16, eta: u16) -> Result<u16, Memory>
     requires w { w < length b.old.steps }
     requires height { eta < length b.old.steps }
-    requires room { length b.old.steps + 7 ≤ 4096 }
-    ensures ok { IfOk result (λ place. (b.new, place) ≡ ground_factor w eta b.old) }
-    ensures added { IfOk result (Added 7 b.old b.new) }
+    requires room { HasRoom 7 b.old }
+    ensures { IfOk result (Appends (ground_factor w eta) 7 b.old b.new) }
 {
-    let one = b.constant(ONE)?;
-    let e2 = b.constant(ECCENTRICITY_SQUARED)?;
-    let rest = b.sub(one, e2)?;
-    let root = b.sqrt(rest)?;
-    let radius = b.div(root, w)?;
+    let ratio = axis_ratio(b)?;
+    let radius = b.div(ratio, w)?;
     let sum = b.add(radius, eta)?;
     let factor = b.div(radius, sum)?;
     Ok(factor)

@@ -1,3 +1,4 @@
 pub mod Extensions
 pub mod Fits
 pub mod Rounds
+pub mod Runs

@@ -1,9 +1,10 @@
--- How a formula is written as steps: an expression appends its left operand's steps, then its right operand's, then its
--- own step; a name stands for a place and appends nothing; a number appends a constant at each use.
--- (Own choice of this project.)
-use Rattle.std.specs.Prelude.{◌≡◌, ℕ, ◌*◌, ℤ, pos, ◌++◌, [], ◌∷◌, length}
+-- How a formula is written as steps: an expression appends its left operand's steps, then its right
+-- operand's, then its own step; a name stands for a place and appends nothing; a number appends a
+-- constant at each use. (Own choice of this project.)
+use Rattle.std.specs.Prelude.{◌≡◌, ℕ, ◌*◌, ℤ, pos, ◌*ℤ◌, ◌++◌, [], ◌∷◌, length}
 use Rattle.std.proofs.Common.{ap, ◌∙◌}
 use Rattle.ldp_num.specs.Number.{one}
+use Rattle.ldp_num.specs.Plain.{floor_div}
 use Rattle.ldp_num.specs.declared.step.Step.{Step}
 use Rattle.ldp_num.specs.declared.step.Step.TheVariants.{Const, Add, Sub, Mul, Div, Sq, Sqrt, Need}
 use Rattle.ldp_series.specs.Draft.{Draft, Formula}
@@ -21,20 +22,32 @@ infixl 10 ◌>>=◌
 unfoldable pub ◌>>=◌ : {A B : Type 0} → Formula A → (A → Formula B) → Formula B
 (first >>= next) draft = let made = first draft in next made.1 made.0
 
--- A formula goes call by call: where the first makes this draft and answer, the whole makes what the rest makes of them.
-pub then : {A B : Type 0} (first : Formula A) (next : A → Formula B) (old mid : Draft) (a : A) (made : Draft × B)
-    → (mid, a) ≡ first old → made ≡ next a mid → made ≡ (first >>= next) old
+-- The law of `>>=`: where the first makes this draft and answer, the whole makes what the rest
+-- makes of them. It is over all types of answers, which no clause of a contract can say, so it
+-- stands beside what it is the law of.
+pub then : {A B : Type 0} (first : Formula A) (next : A → Formula B) (old : Draft) {mid : Draft}
+    {a : A} {made : Draft × B} → (mid, a) ≡ first old → made ≡ next a mid
+    → made ≡ (first >>= next) old
 unfolding ◌>>=◌
-then first next old mid a made h k = k ∙ ap (λ m. next m.1 m.0) h
+then first next old h k = k ∙ ap (λ m. next m.1 m.0) h
 
-abbrev pub name : ℕ → Formula ℕ
-name place = answer place
+-- the result at a place
+abbrev pub # : ℕ → Formula ℕ
+# place = answer place
 
+-- a constant, in units
 abbrev pub units : ℤ → Formula ℕ
 units v = step (Const v)
 
 abbrev pub whole : ℕ → Formula ℕ
 whole v = units (pos (v * one))
+
+-- p / q in units, rounded down
+abbrev pub fraction_units : ℤ → ℕ → ℤ
+fraction_units p q = floor_div (p *ℤ pos one) q
+
+abbrev pub fraction : ℕ → ℕ → Formula ℕ
+fraction p q = units (fraction_units (pos p) q)
 
 abbrev pub of_one : (ℕ → Step) → Formula ℕ → Formula ℕ
 of_one operation a = do
@@ -47,23 +60,25 @@ of_two operation a b = do
   y ← b
   step (operation x y)
 
-abbrev pub plus : Formula ℕ → Formula ℕ → Formula ℕ
-plus = of_two Add
+infixl 65 ◌+ᶠ◌ ◌-ᶠ◌
+infixl 70 ◌*ᶠ◌ ◌/ᶠ◌
+abbrev pub ◌+ᶠ◌ : Formula ℕ → Formula ℕ → Formula ℕ
+◌+ᶠ◌ = of_two Add
 
-abbrev pub minus : Formula ℕ → Formula ℕ → Formula ℕ
-minus = of_two Sub
+abbrev pub ◌-ᶠ◌ : Formula ℕ → Formula ℕ → Formula ℕ
+◌-ᶠ◌ = of_two Sub
 
-abbrev pub times : Formula ℕ → Formula ℕ → Formula ℕ
-times = of_two Mul
+abbrev pub ◌*ᶠ◌ : Formula ℕ → Formula ℕ → Formula ℕ
+◌*ᶠ◌ = of_two Mul
 
-abbrev pub over : Formula ℕ → Formula ℕ → Formula ℕ
-over = of_two Div
+abbrev pub ◌/ᶠ◌ : Formula ℕ → Formula ℕ → Formula ℕ
+◌/ᶠ◌ = of_two Div
 
 abbrev pub square : Formula ℕ → Formula ℕ
 square = of_one Sq
 
-abbrev pub square_root : Formula ℕ → Formula ℕ
-square_root = of_one Sqrt
+abbrev pub √ : Formula ℕ → Formula ℕ
+√ = of_one Sqrt
 
 -- the domain of a formula: this is at least 0
 abbrev pub at_least_zero : Formula ℕ → Formula ℕ

@@ -1,21 +1,15 @@
--- A finished list of steps, and its value.
-use Rattle.std.specs.Prelude.{◌≡◌, ◌≤◌, ◌<◌, ℕ, zero, suc, ℤ, List, [], ◌∷◌, ◌++◌, length, slice_get, All, Option, Some, option_map, option_and_then}
+-- A finished list of steps: that it is well formed, and the list that a formula makes.
+use Rattle.std.specs.Prelude.{◌≡◌, ◌≤◌, ◌<◌, ℕ, zero, suc, List, [], ◌∷◌, ◌++◌, length, All}
 use Rattle.std.proofs.Common.{ap, ◌∙◌}
 use Rattle.ldp_num.specs.declared.step.Step.{Step}
 use Rattle.ldp_num.specs.declared.step.Step.TheVariants.{Input}
-use Rattle.ldp_num.specs.Written.{Ops, number_ops}
-use Rattle.ldp_num.specs.Steps.{StepsFit, results_of}
+use Rattle.ldp_num.specs.Steps.{StepsFit, most_steps}
+pub use Rattle.ldp_num.specs.StepList.{StepList, at_places, value_in, value, first_result}
 use Rattle.ldp_series.specs.Draft.{Draft, Formula}
-
--- the steps, the places of the results, and the number of inputs
-pub record StepList : Type 0 where
-  pub steps : List Step
-  pub outs : List ℕ
-  pub inputs : ℕ
 
 pub record IsWellFormed (list : StepList) : Type 0 where
   pub fit : StepsFit list.inputs 0 list.steps
-  pub small : length list.steps ≤ 4096
+  pub small : length list.steps ≤ most_steps
   pub few_inputs : list.inputs ≤ 16
   pub few_outs : length list.outs ≤ 8
   pub placed : All (λ place. place < length list.steps) list.outs
@@ -37,21 +31,11 @@ finished made = record { steps = made.0.steps; outs = made.1; inputs = made.0.in
 abbrev pub list_of : ℕ → Formula (List ℕ) → StepList
 list_of inputs formula = finished (formula (started inputs))
 
--- A list that was begun with the inputs, continued as the formula says, and finished, is the list of the formula.
-pub list_of-is : (inputs : ℕ) (formula : Formula (List ℕ)) (list : StepList) (start made : Draft) (outs : List ℕ)
-    → start ≡ started inputs → (made, outs) ≡ formula start → list ≡ finished (made, outs) → list ≡ list_of inputs formula
-list_of-is inputs formula list start made outs h k l = l ∙ ap finished k ∙ ap (λ draft. finished (formula draft)) h
-
--- the results at some places
-abbrev pub at_places : {A : Type 0} → List A → List ℕ → Option (List A)
-at_places results [] = Some []
-at_places results (place ∷ places) =
-    option_and_then (λ x. option_map (λ xs. x ∷ xs) (at_places results places)) (slice_get results place)
-
--- the value of a list over inputs, in any carrier's operations; undefined where any step is
-abbrev pub value_in : {A : Type 0} → Ops A → StepList → List A → Option (List A)
-value_in ops list inputs = option_and_then (λ results. at_places results list.outs) (results_of ops inputs list.steps)
-
--- the value of a list: the numbers at its result places
-abbrev pub value : StepList → List ℤ → Option (List ℤ)
-value list inputs = value_in number_ops list inputs
+-- A list that was begun with the inputs, continued as the formula says, and finished, is the list
+-- of the formula.
+pub list_of-is : (inputs : ℕ) (formula : Formula (List ℕ)) (list : StepList) (start made : Draft)
+    (outs : List ℕ)
+    → start ≡ started inputs → (made, outs) ≡ formula start → list ≡ finished (made, outs)
+    → list ≡ list_of inputs formula
+list_of-is inputs formula list start made outs h k l =
+    l ∙ ap finished k ∙ ap (λ draft. finished (formula draft)) h

@@ -6,11 +6,9 @@ mod build;
 mod exponential;
 mod list;
 mod logarithm;
+mod run;
 mod series;
 
-pub use build::Build;
+pub use build::{Build, ONE};
 pub use list::{List, Lists};
 pub use std::alloc::AllocError as Memory;
-
-#[cfg(test)]
-mod tests;

@@ -1,5 +1,5 @@
 ghost use Rattle.std.specs.Prelude.{◌≡◌, ◌≤◌, ◌<◌, length, All};
-ghost use Rattle.ldp_num.specs.Steps.{StepsFit};
+ghost use Rattle.ldp_num.specs.Steps.{StepsFit, most_steps};
 ghost use Rattle.ldp_series.specs.StepList.{StepList, IsWellFormed};
 
 use ldp_num::Step;
@@ -16,14 +16,17 @@ pub struct List {
 impl Model for List {
     ghost Value = { StepList };
 
-    ghost view = { λ list. record { steps = list.steps.items; outs = list.outs.items; inputs = list.inputs } };
+    ghost view = { λ list.
+        record { steps = list.steps.items; outs = list.outs.items; inputs = list.inputs } };
 
-    ghost invariant = { λ list. IsWellFormed (record { steps = list.steps.items; outs = list.outs.items; inputs = list.inputs }) };
+    ghost invariant = { λ list. IsWellFormed
+        (record { steps = list.steps.items; outs = list.outs.items; inputs = list.inputs }) };
 }
 
 impl List {
     pub(crate) fn new(inputs: u16, steps: Vec<Step>, outs: Vec<u16>) -> List
-        requires { IsWellFormed (record { steps = steps.items; outs = outs.items; inputs = inputs }) }
+        requires { IsWellFormed
+            (record { steps = steps.items; outs = outs.items; inputs = inputs }) }
         ensures { result ≡ record { steps = steps.items; outs = outs.items; inputs = inputs } }
     {
         List {
@@ -37,7 +40,7 @@ impl List {
     pub fn steps(&self) -> &[Step]
         ensures steps { result.now ≡ self.now.steps }
         ensures fit { StepsFit self.now.inputs 0 self.now.steps }
-        ensures small { length self.now.steps ≤ 4096 }
+        ensures small { length self.now.steps ≤ most_steps }
     {
         &self.steps
     }
@@ -62,9 +65,9 @@ impl List {
 
 /// The lists of a projection.
 ///
-/// The cell list takes latitude, longitude and height of a cell; the design list takes latitude, longitude, azimuth and
-/// scale factor of a design; the joint list takes the results of the design list and then those of the cell list, and its
-/// result is the linear distortion.
+/// The cell list takes latitude, longitude and height of a cell; the design list takes latitude,
+/// longitude, azimuth and scale factor of a design; the joint list takes the results of the design
+/// list and then those of the cell list, and its result is the linear distortion.
 #[derive(Drop)]
 pub struct Lists {
     pub cell: List,

@@ -1,87 +1,96 @@
 ghost use Rattle.std.specs.Prelude.{◌≡◌, ◌+◌, ◌-◌, ◌*◌, ◌<◌, ◌≤◌, length, All, IfOk, OnErr};
 ghost use Rattle.ldp_num.specs.Number.{IsNumber};
-ghost use Rattle.ldp_series.specs.Draft.{Added, Extends};
-ghost use Rattle.ldp_series.specs.Series.{round, alternating, growing_round, growing, horner, polynomial, odd_polynomial};
+ghost use Rattle.ldp_series.specs.Draft.{HasRoom, Appends, Extends};
+ghost use Rattle.ldp_series.specs.Series.{round, alternating, growing_round, growing, horner};
+ghost use Rattle.ldp_series.specs.Series.{polynomial, odd_polynomial};
 ghost use Rattle.ldp_series.specs.Series.{sine, cosine};
 
 use crate::Memory;
 use crate::build::Build;
 
-/// One, in units of 10^-15.
-pub(crate) const ONE: i128 = 1_000_000_000_000_000;
-
 /// 2k (2k + 1) for k = 13 down to 1.
-const SINE_DIVISORS: [u16; 13] = [702, 600, 506, 420, 342, 272, 210, 156, 110, 72, 42, 20, 6];
+const SINE_DIVISORS: [u16; 13] = [
+    26 * 27,
+    24 * 25,
+    22 * 23,
+    20 * 21,
+    18 * 19,
+    16 * 17,
+    14 * 15,
+    12 * 13,
+    10 * 11,
+    8 * 9,
+    6 * 7,
+    4 * 5,
+    2 * 3,
+];
 
 /// (2k - 1) 2k for k = 13 down to 1.
-const COSINE_DIVISORS: [u16; 13] = [650, 552, 462, 380, 306, 240, 182, 132, 90, 56, 30, 12, 2];
+const COSINE_DIVISORS: [u16; 13] = [
+    25 * 26,
+    23 * 24,
+    21 * 22,
+    19 * 20,
+    17 * 18,
+    15 * 16,
+    13 * 14,
+    11 * 12,
+    9 * 10,
+    7 * 8,
+    5 * 6,
+    3 * 4,
+    1 * 2,
+];
 
 impl Build {
-    /// The sine of an angle in radians: 68 steps.
+    /// Appends the sine of an angle in radians: 68 steps.
     pub fn sin(&mut self, a: u16) -> Result<u16, Memory>
         requires place { a < length self.old.steps }
-        requires room { length self.old.steps + 68 ≤ 4096 }
-        ensures ok { IfOk result (λ place. (self.new, place) ≡ sine a self.old) }
-        ensures added { IfOk result (Added 68 self.old self.new) }
+        requires room { HasRoom 68 self.old }
+        ensures ok { IfOk result (Appends (sine a) 68 self.old self.new) }
         ensures err { OnErr result (self.new ≡ self.old) }
     {
         let start = self.count();
-        match self.append_sine(a) {
-            Ok(place) => Ok(place),
-            Err(memory) => {
-                self.cut(start);
-                Err(memory)
-            }
-        }
+        let made = self.append_sine(a);
+        self.or_cut(start, made)
     }
 
-    /// The cosine of an angle in radians: 67 steps.
+    /// Appends the cosine of an angle in radians: 67 steps.
     pub fn cos(&mut self, a: u16) -> Result<u16, Memory>
         requires place { a < length self.old.steps }
-        requires room { length self.old.steps + 67 ≤ 4096 }
-        ensures ok { IfOk result (λ place. (self.new, place) ≡ cosine a self.old) }
-        ensures added { IfOk result (Added 67 self.old self.new) }
+        requires room { HasRoom 67 self.old }
+        ensures ok { IfOk result (Appends (cosine a) 67 self.old self.new) }
         ensures err { OnErr result (self.new ≡ self.old) }
     {
         let start = self.count();
-        match self.append_cosine(a) {
-            Ok(place) => Ok(place),
-            Err(memory) => {
-                self.cut(start);
-                Err(memory)
-            }
-        }
+        let made = self.append_cosine(a);
+        self.or_cut(start, made)
     }
 
-    /// The polynomial c0 + c1 x + c2 x² + .., its constants in units of 10^-15: 3 n - 2 steps for n of them.
+    /// Appends the polynomial c0 + c1 x + c2 x² + .., its constants in units of 10^-15: 3 n - 2
+    /// steps for n of them.
     pub fn poly(&mut self, x: u16, c: &[i128]) -> Result<u16, Memory>
         requires place { x < length self.old.steps }
         requires some { 0 < length c.now }
         requires numbers { All IsNumber c.now }
-        requires room { length self.old.steps + (3 * length c.now - 2) ≤ 4096 }
-        ensures ok { IfOk result (λ place. (self.new, place) ≡ polynomial x c.now self.old) }
-        ensures added { IfOk result (Added (3 * length c.now - 2) self.old self.new) }
+        requires room { HasRoom (3 * length c.now - 2) self.old }
+        ensures ok { IfOk result
+            (Appends (polynomial x c.now) (3 * length c.now - 2) self.old self.new) }
         ensures err { OnErr result (self.new ≡ self.old) }
     {
         let start = self.count();
-        match self.append_polynomial(x, c) {
-            Ok(place) => Ok(place),
-            Err(memory) => {
-                self.cut(start);
-                Err(memory)
-            }
-        }
+        let made = self.append_polynomial(x, c);
+        self.or_cut(start, made)
     }
 
     fn append_sine(&mut self, a: u16) -> Result<u16, Memory>
         requires place { a < length self.old.steps }
-        requires room { length self.old.steps + 68 ≤ 4096 }
-        ensures ok { IfOk result (λ place. (self.new, place) ≡ sine a self.old) }
-        ensures added { IfOk result (Added 68 self.old self.new) }
+        requires room { HasRoom 68 self.old }
+        ensures ok { IfOk result (Appends (sine a) 68 self.old self.new) }
         ensures kept { Extends self.old self.new }
     {
         let z = self.sq(a)?;
-        let first = self.constant(ONE)?;
+        let first = self.whole(1)?;
         let r = self.alternate(z, first, &SINE_DIVISORS)?;
         let place = self.mul(a, r)?;
         Ok(place)
@@ -89,13 +98,12 @@ impl Build {
 
     fn append_cosine(&mut self, a: u16) -> Result<u16, Memory>
         requires place { a < length self.old.steps }
-        requires room { length self.old.steps + 67 ≤ 4096 }
-        ensures ok { IfOk result (λ place. (self.new, place) ≡ cosine a self.old) }
-        ensures added { IfOk result (Added 67 self.old self.new) }
+        requires room { HasRoom 67 self.old }
+        ensures ok { IfOk result (Appends (cosine a) 67 self.old self.new) }
         ensures kept { Extends self.old self.new }
     {
         let z = self.sq(a)?;
-        let first = self.constant(ONE)?;
+        let first = self.whole(1)?;
         let place = self.alternate(z, first, &COSINE_DIVISORS)?;
         Ok(place)
     }
@@ -104,9 +112,10 @@ impl Build {
         requires z { z < length self.old.steps }
         requires first { first + 1 ≡ length self.old.steps }
         requires small { All (λ d. d ≤ 10000) divisors.now }
-        requires room { length self.old.steps + 5 * length divisors.now ≤ 4096 }
-        ensures ok { IfOk result (λ place. (self.new, place) ≡ alternating z divisors.now first self.old) }
-        ensures added { IfOk result (Added (5 * length divisors.now) self.old self.new) }
+        requires room { HasRoom (5 * length divisors.now) self.old }
+        ensures ok { IfOk result
+            (Appends (alternating z divisors.now first) (5 * length divisors.now)
+            self.old self.new) }
         ensures kept { Extends self.old self.new }
     {
         let mut r = first;
@@ -120,14 +129,13 @@ impl Build {
         requires z { z < length self.old.steps }
         requires r { r < length self.old.steps }
         requires small { divisor ≤ 10000 }
-        requires room { length self.old.steps + 5 ≤ 4096 }
-        ensures ok { IfOk result (λ place. (self.new, place) ≡ round z r divisor self.old) }
-        ensures added { IfOk result (Added 5 self.old self.new) }
+        requires room { HasRoom 5 self.old }
+        ensures ok { IfOk result (Appends (round z r divisor) 5 self.old self.new) }
         ensures kept { Extends self.old self.new }
     {
-        let one = self.constant(ONE)?;
+        let one = self.whole(1)?;
         let product = self.mul(z, r)?;
-        let whole = self.constant(divisor as i128 * ONE)?;
+        let whole = self.whole(divisor)?;
         let quotient = self.div(product, whole)?;
         let next = self.sub(one, quotient)?;
         Ok(next)
@@ -137,9 +145,10 @@ impl Build {
         requires y { y < length self.old.steps }
         requires first { first + 1 ≡ length self.old.steps }
         requires small { All (λ d. d ≤ 10000) divisors.now }
-        requires room { length self.old.steps + 5 * length divisors.now ≤ 4096 }
-        ensures ok { IfOk result (λ place. (self.new, place) ≡ growing y divisors.now first self.old) }
-        ensures added { IfOk result (Added (5 * length divisors.now) self.old self.new) }
+        requires room { HasRoom (5 * length divisors.now) self.old }
+        ensures ok { IfOk result
+            (Appends (growing y divisors.now first) (5 * length divisors.now)
+            self.old self.new) }
         ensures kept { Extends self.old self.new }
     {
         let mut r = first;
@@ -153,14 +162,13 @@ impl Build {
         requires y { y < length self.old.steps }
         requires r { r < length self.old.steps }
         requires small { divisor ≤ 10000 }
-        requires room { length self.old.steps + 5 ≤ 4096 }
-        ensures ok { IfOk result (λ place. (self.new, place) ≡ growing_round y r divisor self.old) }
-        ensures added { IfOk result (Added 5 self.old self.new) }
+        requires room { HasRoom 5 self.old }
+        ensures ok { IfOk result (Appends (growing_round y r divisor) 5 self.old self.new) }
         ensures kept { Extends self.old self.new }
     {
-        let one = self.constant(ONE)?;
+        let one = self.whole(1)?;
         let product = self.mul(y, r)?;
-        let whole = self.constant(divisor as i128 * ONE)?;
+        let whole = self.whole(divisor)?;
         let quotient = self.div(product, whole)?;
         let next = self.add(one, quotient)?;
         Ok(next)
@@ -170,9 +178,9 @@ impl Build {
         requires place { y < length self.old.steps }
         requires some { 0 < length c.now }
         requires numbers { All IsNumber c.now }
-        requires room { length self.old.steps + 3 * length c.now ≤ 4096 }
-        ensures ok { IfOk result (λ place. (self.new, place) ≡ odd_polynomial y c.now self.old) }
-        ensures added { IfOk result (Added (3 * length c.now) self.old self.new) }
+        requires room { HasRoom (3 * length c.now) self.old }
+        ensures ok { IfOk result
+            (Appends (odd_polynomial y c.now) (3 * length c.now) self.old self.new) }
         ensures kept { Extends self.old self.new }
     {
         let z = self.sq(y)?;
@@ -185,9 +193,9 @@ impl Build {
         requires place { x < length self.old.steps }
         requires some { 0 < length c.now }
         requires numbers { All IsNumber c.now }
-        requires room { length self.old.steps + (3 * length c.now - 2) ≤ 4096 }
-        ensures ok { IfOk result (λ place. (self.new, place) ≡ polynomial x c.now self.old) }
-        ensures added { IfOk result (Added (3 * length c.now - 2) self.old self.new) }
+        requires room { HasRoom (3 * length c.now - 2) self.old }
+        ensures ok { IfOk result
+            (Appends (polynomial x c.now) (3 * length c.now - 2) self.old self.new) }
         ensures kept { Extends self.old self.new }
     {
         let last = c.len() - 1;
@@ -202,9 +210,8 @@ impl Build {
         requires x { x < length self.old.steps }
         requires r { r < length self.old.steps }
         requires number { IsNumber c }
-        requires room { length self.old.steps + 3 ≤ 4096 }
-        ensures ok { IfOk result (λ place. (self.new, place) ≡ horner x c r self.old) }
-        ensures added { IfOk result (Added 3 self.old self.new) }
+        requires room { HasRoom 3 self.old }
+        ensures ok { IfOk result (Appends (horner x c r) 3 self.old self.new) }
         ensures kept { Extends self.old self.new }
     {
         let product = self.mul(r, x)?;

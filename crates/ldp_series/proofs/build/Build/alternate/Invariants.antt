@@ -8,5 +8,6 @@ invariant-loop-divisor l = record {
   count : length l.self.steps ≡ length l.fn.self.steps + 5 * l.divisor-index;
   last : l.r + 1 ≡ length l.self.steps;
   kept : Extends l.fn.self l.self;
-  rest : alternating l.z (drop l.divisor-index l.divisors) l.r l.self ≡ alternating l.z l.divisors l.first l.fn.self;
+  rest : alternating l.z (drop l.divisor-index l.divisors) l.r l.self
+      ≡ alternating l.z l.divisors l.first l.fn.self;
 }

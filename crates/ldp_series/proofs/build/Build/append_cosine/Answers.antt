@@ -1,4 +1,4 @@
-use Rattle.std.proofs.Common.{refl}
+use Rattle.std.proofs.Common.{refl, rules}
 use Rattle.ldp_series.specs.Formula.{then}
 use Rattle.ldp_series.specs.Series.{cosine}
 use Rattle.ldp_series.proofs.build.Build.append_cosine.Goals as goal
@@ -6,5 +6,9 @@ use Rattle.ldp_series.proofs.build.Build.append_cosine.Goals as goal
 pub returns-clause-ok : goal.returns-clause-ok
 unfolding cosine
 returns-clause-ok c =
-    then _ _ _ _ _ _ (then _ _ _ _ _ _ refl c.in_ok-z.ensures.ok)
-    (then _ _ _ _ _ _ c.in_ok-first.ensures.ok c.in_ok-place.ensures.ok)
+    record {
+      made =
+          then _ _ _ (then _ _ _ refl c.in_ok-z.ensures.ok.made)
+          (then _ _ _ c.in_ok-first.ensures.ok.made c.in_ok-place.ensures.ok.made);
+      added = search rules;
+    }

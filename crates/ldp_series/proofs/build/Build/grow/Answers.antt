@@ -1,4 +1,4 @@
-use Rattle.std.proofs.Common.{sym, ◌∙◌, ◌≤◌, length, arith}
+use Rattle.std.proofs.Common.{sym, ◌∙◌, ◌≤◌, length, arith, rules}
 use Rattle.ldp_series.specs.Series.{growing_round}
 use Rattle.ldp_series.proofs.Extensions.{then_extends}
 use Rattle.ldp_series.proofs.Rounds.{in_turn-drop, in_turn-end}
@@ -6,17 +6,23 @@ use Rattle.ldp_series.proofs.build.Build.grow.Goals as goal
 
 pub loop-divisor-preserved : goal.loop-divisor-preserved
 loop-divisor-preserved c =
-    let added = c.in_ok-r.ensures.added in
+    let added = c.in_ok-r.ensures.ok.added in
     record {
       count = omega (arith, added.added);
       last = added.last;
       kept = then_extends _ _ _ c.loop-divisor.invariant.kept c.growing_round.ensures.kept;
       rest =
-          sym (in_turn-drop (growing_round c.args.y) _ _ _ _ _ _ c.loop-divisor-test.true c.in_ok-r.ensures.ok)
+          sym
+          (in_turn-drop (growing_round c.args.y) _ _ _ _ _ _ c.loop-divisor-test.true
+          c.in_ok-r.ensures.ok.made)
           ∙ c.loop-divisor.invariant.rest;
     }
 
 pub returns-clause-ok : goal.returns-clause-ok
 returns-clause-ok c =
     let past : length c.args.divisors.now ≤ c.loop-divisor.divisor-index = omega arith in
-    in_turn-end (growing_round c.args.y) _ _ _ _ past ∙ c.loop-divisor.invariant.rest
+    record {
+      made =
+          in_turn-end (growing_round c.args.y) _ _ _ _ past ∙ c.loop-divisor.invariant.rest;
+      added = search rules;
+    }

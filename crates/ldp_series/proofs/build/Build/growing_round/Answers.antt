@@ -1,15 +1,17 @@
-use Rattle.std.proofs.Common.{refl}
+use Rattle.std.proofs.Common.{refl, rules}
 use Rattle.ldp_series.specs.Formula.{then}
 use Rattle.ldp_series.specs.Series.{growing_round}
-use Rattle.ldp_series.proofs.Rounds.{whole_units}
 use Rattle.ldp_series.proofs.build.Build.growing_round.Goals as goal
 
 pub returns-clause-ok : goal.returns-clause-ok
 unfolding growing_round
 returns-clause-ok c =
-    let whole = rw (whole_units c.args.divisor c.requires.small) at c.in_ok-whole.ensures.ok in
-    then _ _ _ _ _ _ c.in_ok-one.ensures.ok
-    (then _ _ _ _ _ _
-    (then _ _ _ _ _ _ (then _ _ _ _ _ _ refl (then _ _ _ _ _ _ refl c.in_ok-product.ensures.ok))
-    (then _ _ _ _ _ _ whole c.in_ok-quotient.ensures.ok))
-    c.in_ok-next.ensures.ok)
+    record {
+      made =
+          then _ _ _ c.in_ok-one.ensures.ok.made
+          (then _ _ _
+          (then _ _ _ (then _ _ _ refl (then _ _ _ refl c.in_ok-product.ensures.ok.made))
+          (then _ _ _ c.in_ok-whole.ensures.ok.made c.in_ok-quotient.ensures.ok.made))
+          c.in_ok-next.ensures.ok.made);
+      added = search rules;
+    }

@@ -1,4 +1,4 @@
-use Rattle.std.proofs.Common.{refl}
+use Rattle.std.proofs.Common.{refl, rules}
 use Rattle.std.proofs.lemmas.Int.{to_z-of_z}
 use Rattle.ldp_series.specs.Formula.{then}
 use Rattle.ldp_series.specs.Series.{horner}
@@ -8,6 +8,10 @@ pub returns-clause-ok : goal.returns-clause-ok
 unfolding horner
 returns-clause-ok c =
     let fits = c.ranges.c in
-    let constant = simp to_z-of_z at c.in_ok-c.ensures.ok in
-    then _ _ _ _ _ _ (then _ _ _ _ _ _ refl (then _ _ _ _ _ _ refl c.in_ok-product.ensures.ok))
-    (then _ _ _ _ _ _ constant c.in_ok-sum.ensures.ok)
+    let constant = simp to_z-of_z at c.in_ok-c.ensures.ok.made in
+    record {
+      made =
+          then _ _ _ (then _ _ _ refl (then _ _ _ refl c.in_ok-product.ensures.ok.made))
+          (then _ _ _ constant c.in_ok-sum.ensures.ok.made);
+      added = search rules;
+    }

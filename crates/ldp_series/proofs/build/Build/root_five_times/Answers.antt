@@ -1,4 +1,4 @@
-use Rattle.std.proofs.Common.{refl}
+use Rattle.std.proofs.Common.{refl, rules}
 use Rattle.ldp_series.specs.Formula.{then}
 use Rattle.ldp_series.specs.Series.{repeated}
 use Rattle.ldp_series.proofs.build.Build.root_five_times.Goals as goal
@@ -6,8 +6,12 @@ use Rattle.ldp_series.proofs.build.Build.root_five_times.Goals as goal
 pub returns-clause-ok : goal.returns-clause-ok
 unfolding repeated
 returns-clause-ok c =
-    then _ _ _ _ _ _ (then _ _ _ _ _ _ refl c.in_ok-second.ensures.ok)
-    (then _ _ _ _ _ _ (then _ _ _ _ _ _ refl c.in_ok-fourth.ensures.ok)
-    (then _ _ _ _ _ _ (then _ _ _ _ _ _ refl c.in_ok-eighth.ensures.ok)
-    (then _ _ _ _ _ _ (then _ _ _ _ _ _ refl c.in_ok-sixteenth.ensures.ok)
-    (then _ _ _ _ _ _ (then _ _ _ _ _ _ refl c.in_ok-thirty_second.ensures.ok) refl))))
+    record {
+      made =
+          then _ _ _ (then _ _ _ refl c.in_ok-second.ensures.ok.made)
+          (then _ _ _ (then _ _ _ refl c.in_ok-fourth.ensures.ok.made)
+          (then _ _ _ (then _ _ _ refl c.in_ok-eighth.ensures.ok.made)
+          (then _ _ _ (then _ _ _ refl c.in_ok-sixteenth.ensures.ok.made)
+          (then _ _ _ (then _ _ _ refl c.in_ok-thirty_second.ensures.ok.made) refl))));
+      added = search rules;
+    }
