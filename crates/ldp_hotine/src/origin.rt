@@ -1,19 +1,18 @@
 ghost use Rattle.std.specs.Prelude.{◌≡◌, ◌+◌, ◌<◌, ◌≤◌, length, IfOk};
-ghost use Rattle.ldp_series.specs.Draft.{Added};
-ghost use Rattle.ldp_hotine.specs.Hotine.{by_hemisphere, constant_f, half_difference, cosine_of_sine, natural_origin};
+ghost use Rattle.ldp_series.specs.Draft.{HasRoom, Appends};
+ghost use Rattle.ldp_hotine.specs.Hotine.{by_hemisphere, constant_f, half_difference};
+ghost use Rattle.ldp_hotine.specs.Hotine.{cosine_of_sine, natural_origin};
 
-use crate::constants::ONE;
 use ldp_series::{Build, Memory};
 
 /// Snyder's F: 5 steps.
 pub(crate) fn constant_f(build: &mut Build, south: bool, d: u16) -> Result<u16, Memory>
     requires d { d < length build.old.steps }
-    requires room { length build.old.steps + 5 ≤ 4096 }
-    ensures ok { IfOk result (λ place. (build.new, place) ≡ constant_f south d build.old) }
-    ensures added { IfOk result (Added 5 build.old build.new) }
+    requires room { HasRoom 5 build.old }
+    ensures { IfOk result (Appends (constant_f south d) 5 build.old build.new) }
 {
     let square = build.sq(d)?;
-    let one = build.constant(ONE)?;
+    let one = build.whole(1)?;
     let rest = build.sub(square, one)?;
     let r = build.sqrt(rest)?;
     let f = by_hemisphere(build, south, d, r)?;
@@ -24,28 +23,28 @@ pub(crate) fn constant_f(build: &mut Build, south: bool, d: u16) -> Result<u16, 
 fn by_hemisphere(build: &mut Build, south: bool, d: u16, r: u16) -> Result<u16, Memory>
     requires d { d < length build.old.steps }
     requires r { r < length build.old.steps }
-    requires room { length build.old.steps + 1 ≤ 4096 }
-    ensures ok { IfOk result (λ place. (build.new, place) ≡ by_hemisphere south d r build.old) }
-    ensures added { IfOk result (Added 1 build.old build.new) }
+    requires room { HasRoom 1 build.old }
+    ensures { IfOk result (Appends (by_hemisphere south d r) 1 build.old build.new) }
 {
     if south {
-        build.sub(d, r)
+        let difference = build.sub(d, r)?;
+        Ok(difference)
     } else {
-        build.add(d, r)
+        let sum = build.add(d, r)?;
+        Ok(sum)
     }
 }
 
 /// Half the difference of a number and its reciprocal: 5 steps.
 pub(crate) fn half_difference(build: &mut Build, f: u16) -> Result<u16, Memory>
     requires f { f < length build.old.steps }
-    requires room { length build.old.steps + 5 ≤ 4096 }
-    ensures ok { IfOk result (λ place. (build.new, place) ≡ half_difference f build.old) }
-    ensures added { IfOk result (Added 5 build.old build.new) }
+    requires room { HasRoom 5 build.old }
+    ensures { IfOk result (Appends (half_difference f) 5 build.old build.new) }
 {
-    let one = build.constant(ONE)?;
+    let one = build.whole(1)?;
     let reciprocal = build.div(one, f)?;
     let difference = build.sub(f, reciprocal)?;
-    let two = build.constant(2 * ONE)?;
+    let two = build.whole(2)?;
     let half = build.div(difference, two)?;
     Ok(half)
 }
@@ -53,11 +52,10 @@ pub(crate) fn half_difference(build: &mut Build, f: u16) -> Result<u16, Memory>
 /// The cosine, at least 0, of an angle from its sine: 4 steps.
 pub(crate) fn cosine_of_sine(build: &mut Build, s: u16) -> Result<u16, Memory>
     requires s { s < length build.old.steps }
-    requires room { length build.old.steps + 4 ≤ 4096 }
-    ensures ok { IfOk result (λ place. (build.new, place) ≡ cosine_of_sine s build.old) }
-    ensures added { IfOk result (Added 4 build.old build.new) }
+    requires room { HasRoom 4 build.old }
+    ensures { IfOk result (Appends (cosine_of_sine s) 4 build.old build.new) }
 {
-    let one = build.constant(ONE)?;
+    let one = build.whole(1)?;
     let square = build.sq(s)?;
     let rest = build.sub(one, square)?;
     let root = build.sqrt(rest)?;
@@ -78,9 +76,8 @@ pub(crate) fn natural_origin(
     requires g { g < length build.old.steps }
     requires sg { sg < length build.old.steps }
     requires cg { cg < length build.old.steps }
-    requires room { length build.old.steps + 65 ≤ 4096 }
-    ensures ok { IfOk result (λ place. (build.new, place) ≡ natural_origin longitude b g sg cg build.old) }
-    ensures added { IfOk result (Added 65 build.old build.new) }
+    requires room { HasRoom 65 build.old }
+    ensures { IfOk result (Appends (natural_origin longitude b g sg cg) 65 build.old build.new) }
 {
     let tangent = build.div(sg, cg)?;
     let x = build.mul(g, tangent)?;

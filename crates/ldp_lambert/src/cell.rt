@@ -6,7 +6,8 @@ use ldp_ellipsoid::{geo, ground, isometric, meridian};
 use ldp_series::{Build, List, Memory};
 use std::alloc::Global;
 
-pub(crate) fn cell_list(alloc: Global) -> Result<List, Memory>
+/// The cell list: m, the isometric latitude and the ground factor of a cell.
+pub fn cell_list(alloc: Global) -> Result<List, Memory>
     ensures exact { IfOk result (λ list. list ≡ cell_list) }
     ensures shape { IfOk result (HasShape 3 3) }
 {

@@ -1,18 +1,17 @@
 ghost use Rattle.std.specs.Prelude.{◌≡◌, ◌+◌, ◌<◌, ◌≤◌, length, IfOk};
-ghost use Rattle.ldp_series.specs.Draft.{Added};
+ghost use Rattle.ldp_series.specs.Draft.{HasRoom, Appends};
 ghost use Rattle.ldp_series.specs.Shape.{HasShape};
 ghost use Rattle.ldp_lambert.specs.Lambert.{within_domain, joint_list};
 
-use ldp_series::{Build, List, Memory};
+use ldp_series::{Build, List, Memory, ONE};
 use std::alloc::Global;
 
-/// One, in units of 10^-15.
-const ONE: i128 = 1_000_000_000_000_000;
-
 /// 1/4, in units of 10^-15: the greatest square of a difference of isometric latitudes.
-const DOMAIN: i128 = 250_000_000_000_000;
+const DOMAIN: i128 = ONE / 4;
 
-pub(crate) fn joint_list(alloc: Global) -> Result<List, Memory>
+/// The joint list: the linear distortion, from the results of a design list, n, q1, m1 and the scale
+/// factor, and then those of the cell list.
+pub fn joint_list(alloc: Global) -> Result<List, Memory>
     ensures exact { IfOk result (λ list. list ≡ joint_list) }
     ensures shape { IfOk result (HasShape 7 1) }
 {
@@ -27,7 +26,7 @@ pub(crate) fn joint_list(alloc: Global) -> Result<List, Memory>
     let scaled = build.mul(scale, ratio)?;
     let k = build.mul(scaled, y)?;
     let product = build.mul(k, factor)?;
-    let one = build.constant(ONE)?;
+    let one = build.whole(1)?;
     let distortion = build.sub(product, one)?;
     let list = build.finish(&[distortion])?;
     Ok(list)
@@ -36,9 +35,8 @@ pub(crate) fn joint_list(alloc: Global) -> Result<List, Memory>
 /// The stated domain: 4 steps.
 fn within_domain(build: &mut Build, d: u16) -> Result<u16, Memory>
     requires d { d < length build.old.steps }
-    requires room { length build.old.steps + 4 ≤ 4096 }
-    ensures ok { IfOk result (λ place. (build.new, place) ≡ within_domain d build.old) }
-    ensures added { IfOk result (Added 4 build.old build.new) }
+    requires room { HasRoom 4 build.old }
+    ensures { IfOk result (Appends (within_domain d) 4 build.old build.new) }
 {
     let domain = build.constant(DOMAIN)?;
     let square = build.sq(d)?;

@@ -10,9 +10,10 @@ use std::alloc::Global;
 
 /// The three lists of the Lambert conformal conic projection with one standard parallel.
 ///
-/// The inputs of the cell list are latitude, longitude (radians, in units of 10^-15) and height over the semi-major axis; its
-/// results are Snyder's m, the isometric latitude and the ground factor. The design list gives the sine of the standard
-/// parallel, its isometric latitude, its m and the scale factor.
+/// The inputs of the cell list are latitude, longitude (radians, in units of 10^-15) and height
+/// over the semi-major axis; its results are Snyder's m, the isometric latitude and the ground
+/// factor. The design list gives the sine of the standard parallel, its isometric latitude, its m
+/// and the scale factor.
 pub fn lists(alloc: Global) -> Result<Lists, Memory>
     ensures exact { IfOk result (λ lists. lists ≡ lambert) }
     ensures cell { IfOk result (λ lists. HasShape 3 3 lists.cell) }

@@ -2,10 +2,8 @@ ghost use Rattle.std.specs.Prelude.{◌≡◌, IfOk};
 ghost use Rattle.ldp_series.specs.Shape.{HasShape};
 ghost use Rattle.ldp_tm.specs.TransverseMercator.{cell_list};
 
-use crate::coefficients::{
-    fourth_power, second_eccentricity_squared, second_power, sixth_power, tangent_squared,
-};
-use ldp_ellipsoid::{geo, ground};
+use crate::coefficients::{fourth_power, second_power, sixth_power, tangent_squared};
+use ldp_ellipsoid::{geo, ground, second_eccentricity_squared};
 use ldp_series::{Build, List, Memory};
 use std::alloc::Global;
 

@@ -1,14 +1,13 @@
 ghost use Rattle.std.specs.Prelude.{◌≡◌, ◌+◌, ◌<◌, ◌≤◌, length, IfOk};
-ghost use Rattle.ldp_series.specs.Draft.{Added};
+ghost use Rattle.ldp_series.specs.Draft.{HasRoom, Appends};
 ghost use Rattle.ldp_series.specs.Shape.{HasShape};
 ghost use Rattle.ldp_tm.specs.TransverseMercator.{within_domain, scale_ratio, joint_list};
 
-use crate::coefficients::ONE;
-use ldp_series::{Build, List, Memory};
+use ldp_series::{Build, List, Memory, ONE};
 use std::alloc::Global;
 
 /// 1/64, in units of 10^-15: the greatest square of a difference of longitudes, in radians.
-const DOMAIN: i128 = 15_625_000_000_000;
+const DOMAIN: i128 = ONE / 64;
 
 pub(crate) fn joint_list(alloc: Global) -> Result<List, Memory>
     ensures exact { IfOk result (λ list. list ≡ joint_list) }
@@ -24,7 +23,7 @@ pub(crate) fn joint_list(alloc: Global) -> Result<List, Memory>
     let p = scale_ratio(&mut build, z, a1, a2, a3)?;
     let k = build.mul(scale, p)?;
     let product = build.mul(k, factor)?;
-    let one = build.constant(ONE)?;
+    let one = build.whole(1)?;
     let distortion = build.sub(product, one)?;
     let list = build.finish(&[distortion])?;
     Ok(list)
@@ -33,9 +32,8 @@ pub(crate) fn joint_list(alloc: Global) -> Result<List, Memory>
 /// The stated domain: 4 steps.
 fn within_domain(build: &mut Build, d: u16) -> Result<u16, Memory>
     requires d { d < length build.old.steps }
-    requires room { length build.old.steps + 4 ≤ 4096 }
-    ensures ok { IfOk result (λ place. (build.new, place) ≡ within_domain d build.old) }
-    ensures added { IfOk result (Added 4 build.old build.new) }
+    requires room { HasRoom 4 build.old }
+    ensures { IfOk result (Appends (within_domain d) 4 build.old build.new) }
 {
     let domain = build.constant(DOMAIN)?;
     let square = build.sq(d)?;
@@ -50,11 +48,10 @@ fn scale_ratio(build: &mut Build, z: u16, a1: u16, a2: u16, a3: u16) -> Result<u
     requires a1 { a1 < length build.old.steps }
     requires a2 { a2 < length build.old.steps }
     requires a3 { a3 < length build.old.steps }
-    requires room { length build.old.steps + 7 ≤ 4096 }
-    ensures ok { IfOk result (λ place. (build.new, place) ≡ scale_ratio z a1 a2 a3 build.old) }
-    ensures added { IfOk result (Added 7 build.old build.new) }
+    requires room { HasRoom 7 build.old }
+    ensures { IfOk result (Appends (scale_ratio z a1 a2 a3) 7 build.old build.new) }
 {
-    let one = build.constant(ONE)?;
+    let one = build.whole(1)?;
     let sixth = build.mul(z, a3)?;
     let inner = build.add(a2, sixth)?;
     let fourth = build.mul(z, inner)?;

@@ -1,4 +1,5 @@
-//! The transverse Mercator projection as lists of steps (Snyder, USGS PP 1395, chapter 8, on GRS 80).
+//! The transverse Mercator projection as lists of steps (Snyder, USGS PP 1395, chapter 8, on GRS
+//! 80).
 //!
 //! Stated domain: (λ - λ0)² ≤ 1/64 in radians, outside of which the distortion is undefined.
 #![tactic(auto)]
@@ -11,6 +12,3 @@ mod projection;
 
 pub use ldp_series::Memory;
 pub use projection::lists;
-
-#[cfg(test)]
-mod tests;

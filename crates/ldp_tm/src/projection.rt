@@ -10,9 +10,10 @@ use std::alloc::Global;
 
 /// The three lists of the transverse Mercator projection.
 ///
-/// The inputs of the cell list are latitude, longitude (radians, in units of 10^-15) and height over the semi-major axis; its
-/// results are the longitude, the cosine of the latitude, three coefficients of the scale factor and the ground factor. The
-/// design list gives the central meridian and its scale factor.
+/// The inputs of the cell list are latitude, longitude (radians, in units of 10^-15) and height
+/// over the semi-major axis; its results are the longitude, the cosine of the latitude, three
+/// coefficients of the scale factor and the ground factor. The design list gives the central
+/// meridian and its scale factor.
 pub fn lists(alloc: Global) -> Result<Lists, Memory>
     ensures exact { IfOk result (λ lists. lists ≡ transverse_mercator) }
     ensures cell { IfOk result (λ lists. HasShape 3 6 lists.cell) }

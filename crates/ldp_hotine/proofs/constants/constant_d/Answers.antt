@@ -1,9 +1,18 @@
-use Rattle.std.proofs.Common.{refl}
+use Rattle.std.proofs.Common.{refl, rules}
 use Rattle.ldp_series.specs.Formula.{then}
 use Rattle.ldp_hotine.specs.Hotine.{constant_d}
 use Rattle.ldp_hotine.proofs.constants.constant_d.Goals as goal
 
-pub returns-clause-ok : goal.returns-clause-ok
+pub returns : goal.returns
 unfolding constant_d
-returns-clause-ok c =
-    then _ _ _ _ _ _ (then _ _ _ _ _ _ refl (then _ _ _ _ _ _ refl c.in_ok-product.ensures.ok)) (then _ _ _ _ _ _ (then _ _ _ _ _ _ refl (then _ _ _ _ _ _ (then _ _ _ _ _ _ refl c.in_ok-root.ensures.ok) c.in_ok-divisor.ensures.ok)) c.in_ok-quotient.ensures.ok)
+returns c =
+    record {
+      made =
+          then _ _ _ (then _ _ _ refl (then _ _ _ refl c.in_ok-product.ensures.ok.made))
+          (then _ _ _
+          (then _ _ _ refl
+          (then _ _ _ (then _ _ _ refl c.in_ok-root.ensures.ok.made)
+          c.in_ok-divisor.ensures.ok.made))
+          c.in_ok-quotient.ensures.ok.made);
+      added = search rules;
+    }

@@ -8,17 +8,15 @@ pub returns-clause-exact : goal.returns-clause-exact
 unfolding design_formula
 returns-clause-exact c =
     list_of-is 4 (design_formula c.args.south 0 1 2 3) _ _ _ _ c.in_ok-build.ensures.ok
-    (then _ _ _ _ _ _ c.in_ok-centre.ensures.ok
-    (then _ _ _ _ _ _ c.in_ok-qc.ensures.ok
-    (then _ _ _ _ _ _ c.in_ok-b.ensures.ok
-    (then _ _ _ _ _ _ c.in_ok-ratio.ensures.ok
-    (then _ _ _ _ _ _ c.in_ok-h.ensures.ok
-    (then _ _ _ _ _ _ c.in_ok-d.ensures.ok
-    (then _ _ _ _ _ _ c.in_ok-f.ensures.ok
-    (then _ _ _ _ _ _ c.in_ok-g.ensures.ok
-    (then _ _ _ _ _ _ c.in_ok-v.ensures.ok
-    (then _ _ _ _ _ _ (then _ _ _ _ _ _ refl (then _ _ _ _ _ _ refl c.in_ok-sg.ensures.ok))
-    (then _ _ _ _ _ _ c.in_ok-cg.ensures.ok
-    (then _ _ _ _ _ _ c.in_ok-l0.ensures.ok
-    refl))))))))))))
+    (then _ _ _ c.in_ok-centre.ensures.ok
+    (then _ _ _ c.in_ok-qc.ensures.made
+    (then _ _ _ c.in_ok-b.ensures.made
+    (then _ _ _ c.in_ok-ratio.ensures.made
+    (then _ _ _ c.in_ok-a.ensures.made
+    (then _ _ _ c.in_ok-d.ensures.made
+    (then _ _ _ c.in_ok-f.ensures.made
+    (then _ _ _ c.in_ok-g.ensures.made
+    (then _ _ _ c.in_ok-v.ensures.ok.made
+    (then _ _ _ (then _ _ _ refl (then _ _ _ refl c.in_ok-sg.ensures.ok.made))
+    (then _ _ _ c.in_ok-cg.ensures.made (then _ _ _ c.in_ok-l0.ensures.made refl))))))))))))
     c.in_ok-list.ensures

@@ -1,9 +1,17 @@
-use Rattle.std.proofs.Common.{refl}
+use Rattle.std.proofs.Common.{refl, rules}
 use Rattle.ldp_series.specs.Formula.{then}
 use Rattle.ldp_hotine.specs.Hotine.{cosine_of_sine}
 use Rattle.ldp_hotine.proofs.origin.cosine_of_sine.Goals as goal
 
-pub returns-clause-ok : goal.returns-clause-ok
+pub returns : goal.returns
 unfolding cosine_of_sine
-returns-clause-ok c =
-    then _ _ _ _ _ _ (then _ _ _ _ _ _ c.in_ok-one.ensures.ok (then _ _ _ _ _ _ (then _ _ _ _ _ _ refl c.in_ok-square.ensures.ok) c.in_ok-rest.ensures.ok)) c.in_ok-root.ensures.ok
+returns c =
+    record {
+      made =
+          then _ _ _
+          (then _ _ _ c.in_ok-one.ensures.ok.made
+          (then _ _ _ (then _ _ _ refl c.in_ok-square.ensures.ok.made)
+          c.in_ok-rest.ensures.ok.made))
+          c.in_ok-root.ensures.ok.made;
+      added = search rules;
+    }

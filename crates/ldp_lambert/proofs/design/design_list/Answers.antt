@@ -8,8 +8,6 @@ pub returns-clause-exact : goal.returns-clause-exact
 unfolding design_formula
 returns-clause-exact c =
     list_of-is 4 (design_formula 0 1 2 3) _ _ _ _ c.in_ok-build.ensures.ok
-    (then _ _ _ _ _ _ c.in_ok-parallel.ensures.ok
-    (then _ _ _ _ _ _ c.in_ok-m1.ensures.ok
-    (then _ _ _ _ _ _ c.in_ok-q1.ensures.ok
-    refl)))
+    (then _ _ _ c.in_ok-parallel.ensures.ok
+    (then _ _ _ c.in_ok-m1.ensures.made (then _ _ _ c.in_ok-q1.ensures.made refl)))
     c.in_ok-list.ensures

@@ -1,18 +1,25 @@
 use Rattle.std.proofs.Common.{refl}
 use Rattle.ldp_series.specs.Formula.{then}
 use Rattle.ldp_series.specs.StepList.{list_of-is}
-use Rattle.ldp_lambert.specs.Lambert.{joint_formula}
+use Rattle.ldp_lambert.specs.Lambert.{joint_formula, given}
 use Rattle.ldp_lambert.proofs.joint.joint_list.Goals as goal
 
 pub returns-clause-exact : goal.returns-clause-exact
 unfolding joint_formula
 returns-clause-exact c =
-    list_of-is 7 (joint_formula 0 1 2 3 4 5 6) _ _ _ _ c.in_ok-build.ensures.ok
-    (then _ _ _ _ _ _ (then _ _ _ _ _ _ refl (then _ _ _ _ _ _ refl c.in_ok-d.ensures.ok))
-    (then _ _ _ _ _ _ c.in_ok-_within.ensures.ok
-    (then _ _ _ _ _ _ (then _ _ _ _ _ _ refl (then _ _ _ _ _ _ refl c.in_ok-x.ensures.ok))
-    (then _ _ _ _ _ _ c.in_ok-y.ensures.ok
-    (then _ _ _ _ _ _ (then _ _ _ _ _ _ (then _ _ _ _ _ _ refl (then _ _ _ _ _ _ (then _ _ _ _ _ _ refl (then _ _ _ _ _ _ refl c.in_ok-ratio.ensures.ok)) c.in_ok-scaled.ensures.ok)) (then _ _ _ _ _ _ refl c.in_ok-k.ensures.ok))
-    (then _ _ _ _ _ _ (then _ _ _ _ _ _ (then _ _ _ _ _ _ refl (then _ _ _ _ _ _ refl c.in_ok-product.ensures.ok)) (then _ _ _ _ _ _ c.in_ok-one.ensures.ok c.in_ok-distortion.ensures.ok))
+    list_of-is 7 (joint_formula given) _ _ _ _ c.in_ok-build.ensures.ok
+    (then _ _ _ (then _ _ _ refl (then _ _ _ refl c.in_ok-d.ensures.ok.made))
+    (then _ _ _ c.in_ok-_within.ensures.made
+    (then _ _ _ (then _ _ _ refl (then _ _ _ refl c.in_ok-x.ensures.ok.made))
+    (then _ _ _ c.in_ok-y.ensures.ok.made
+    (then _ _ _
+    (then _ _ _
+    (then _ _ _ refl
+    (then _ _ _ (then _ _ _ refl (then _ _ _ refl c.in_ok-ratio.ensures.ok.made))
+    c.in_ok-scaled.ensures.ok.made))
+    (then _ _ _ refl c.in_ok-k.ensures.ok.made))
+    (then _ _ _
+    (then _ _ _ (then _ _ _ refl (then _ _ _ refl c.in_ok-product.ensures.ok.made))
+    (then _ _ _ c.in_ok-one.ensures.ok.made c.in_ok-distortion.ensures.ok.made))
     refl))))))
     c.in_ok-list.ensures

@@ -1,9 +1,17 @@
-use Rattle.std.proofs.Common.{refl}
+use Rattle.std.proofs.Common.{refl, rules}
 use Rattle.ldp_series.specs.Formula.{then}
 use Rattle.ldp_lambert.specs.Lambert.{within_domain}
 use Rattle.ldp_lambert.proofs.joint.within_domain.Goals as goal
 
-pub returns-clause-ok : goal.returns-clause-ok
+pub returns : goal.returns
 unfolding within_domain
-returns-clause-ok c =
-    then _ _ _ _ _ _ (then _ _ _ _ _ _ c.in_ok-domain.ensures.ok (then _ _ _ _ _ _ (then _ _ _ _ _ _ refl c.in_ok-square.ensures.ok) c.in_ok-rest.ensures.ok)) c.in_ok-within.ensures.ok
+returns c =
+    record {
+      made =
+          then _ _ _
+          (then _ _ _ c.in_ok-domain.ensures.ok.made
+          (then _ _ _ (then _ _ _ refl c.in_ok-square.ensures.ok.made)
+          c.in_ok-rest.ensures.ok.made))
+          c.in_ok-within.ensures.ok.made;
+      added = search rules;
+    }

@@ -8,13 +8,13 @@ pub returns-clause-exact : goal.returns-clause-exact
 unfolding cell_formula
 returns-clause-exact c =
     list_of-is 3 (cell_formula 0 1 2) _ _ _ _ c.in_ok-build.ensures.ok
-    (then _ _ _ _ _ _ c.in_ok-g.ensures.ok
-    (then _ _ _ _ _ _ c.in_ok-t.ensures.ok
-    (then _ _ _ _ _ _ c.in_ok-u.ensures.ok
-    (then _ _ _ _ _ _
-    (then _ _ _ _ _ _ refl
-    (then _ _ _ _ _ _ (then _ _ _ _ _ _ refl c.in_ok-square.ensures.ok) c.in_ok-c.ensures.ok))
-    (then _ _ _ _ _ _ c.in_ok-a1.ensures.ok
-    (then _ _ _ _ _ _ c.in_ok-a2.ensures.ok
-    (then _ _ _ _ _ _ c.in_ok-a3.ensures.ok (then _ _ _ _ _ _ c.in_ok-factor.ensures.ok refl))))))))
+    (then _ _ _ c.in_ok-g.ensures.ok
+    (then _ _ _ c.in_ok-t.ensures.made
+    (then _ _ _ c.in_ok-u.ensures.made
+    (then _ _ _
+    (then _ _ _ refl
+    (then _ _ _ (then _ _ _ refl c.in_ok-square.ensures.ok.made) c.in_ok-c.ensures.ok.made))
+    (then _ _ _ c.in_ok-a1.ensures.made
+    (then _ _ _ c.in_ok-a2.ensures.made
+    (then _ _ _ c.in_ok-a3.ensures.made (then _ _ _ c.in_ok-factor.ensures.made refl))))))))
     c.in_ok-list.ensures

@@ -1,6 +1,8 @@
+use Rattle.std.proofs.Common.{rules}
 use Rattle.ldp_tm.specs.TransverseMercator.{sixth_power}
 use Rattle.ldp_tm.proofs.coefficients.sixth_power.Goals as goal
 
-pub returns-clause-ok : goal.returns-clause-ok
+pub returns : goal.returns
 unfolding sixth_power
-returns-clause-ok c = c.in_ok-place.ensures.ok
+returns c =
+    record { made = c.in_ok-place.ensures.ok.made; added = search rules }
