@@ -1,0 +1,2 @@
+pub mod LambertTwo
+pub mod Laws
