@@ -1,5 +1,5 @@
--- The number that a text stands for is an exact fraction. It is rounded to the nearest whole number of units, and a half
--- is rounded away from zero. (Own choice of this project.)
+-- The number that a text stands for is an exact fraction. It is rounded to the nearest whole number
+-- of units, and a half is rounded away from zero. (Own choice of this project.)
 use Rattle.std.specs.Prelude.{ℕ, ◌+◌, ◌*◌, ◌/◌, ◌^◌, Bool, true, false, ℤ, pos, neg_ℤ, ◌++◌, length}
 use Rattle.ldp_decimal.specs.Grammar.{Parts, value}
 

@@ -1,12 +1,15 @@
--- The number grammar: an optional sign; decimal digits with at most one point among or around them, and at least one
--- digit; an optional exponent, which is `e` or `E`, an optional sign and one to four digits. At most 64 bytes.
--- (The notation of ISO 6093 NR3; the limits, and the exponent that may be left out, are own choices of this project.)
-use Rattle.std.specs.Prelude.{◌≤◌, ℕ, ◌+◌, ◌-◌, ◌*◌, ◌==◌, nat_le, ◌&&◌, ◌||◌, Bool, true, false, List, [], ◌∷◌, length, take, drop, Option, Some, None, option_and_then, if◌then◌else◌}
+-- The number grammar: an optional sign; decimal digits with at most one point among or around them,
+-- and at least one digit; an optional exponent, which is `e` or `E`, an optional sign and one to
+-- four digits. At most 64 bytes. (The notation of ISO 6093 NR3; the limits, and the exponent that
+-- may be left out, are own choices of this project.)
+use Rattle.std.specs.Prelude.{◌≤◌, ℕ, ◌+◌, ◌-◌, ◌*◌, ◌==◌, nat_le, ◌&&◌, ◌||◌, Bool, true, false}
+use Rattle.std.specs.Prelude.{List, [], ◌∷◌, length, take, drop, Option, Some, None}
+use Rattle.std.specs.Prelude.{option_and_then, if◌then◌else◌}
 use Rattle.std.specs.List.{prefix_len, list_all}
 use Rattle.std.specs.Char.{is_ascii_digit}
 
--- The parts of a number's text. An exponent k of 0 or more is `raise` k and `lower` 0; an exponent of -k is `raise` 0
--- and `lower` k.
+-- The parts of a number's text. An exponent k of 0 or more is `raise` k and `lower` 0; an exponent
+-- of -k is `raise` 0 and `lower` k.
 pub record Parts : Type 0 where
   pub negative : Bool
   pub whole : List ℕ
@@ -58,7 +61,13 @@ exponent (b ∷ bs) = if (b == 101) || (b == 69) then power (signed bs).0 (signe
 unfoldable pub with_exponent : Bool → List ℕ → List ℕ → ℕ × ℕ → Option Parts
 with_exponent negative whole fraction e =
     if nat_le 1 (length whole + length fraction)
-    then Some record { negative = negative; whole = whole; fraction = fraction; raise = e.0; lower = e.1 }
+    then Some record {
+      negative = negative;
+      whole = whole;
+      fraction = fraction;
+      raise = e.0;
+      lower = e.1;
+    }
     else None
 
 -- the parts of a text of any length

@@ -1,7 +1,6 @@
 -- Reading a decimal text as a whole number of units of 10^-places (own choice of this project).
-use Rattle.std.specs.Prelude.{◌≡◌, ◌≤◌, ℕ, nat_le, ℤ, pos, negsuc, unsigned_abs, Bool, true, false, List, Option, Some, None, option_map, Result, Ok, Err, if◌then◌else◌}
-use Rattle.std.proofs.Common.{arith}
-use Rattle.std.proofs.lemmas.Bool.Decides.{nat_tests}
+use Rattle.std.specs.Prelude.{ℕ, nat_le, ℤ, pos, negsuc, unsigned_abs, Bool, true, false, List}
+use Rattle.std.specs.Prelude.{Option, Some, None, option_map, Result, Ok, Err, if◌then◌else◌}
 use Rattle.ldp_decimal.specs.Grammar.{parts}
 use Rattle.ldp_decimal.specs.Fraction.{fraction_of, nearest}
 use Rattle.ldp_decimal.specs.declared.fault.NumFault.{NumFault}
@@ -18,17 +17,9 @@ is_below_zero (negsuc n) = true
 -- a number, where its absolute value is at most the limit
 abbrev pub within : ℕ → Option ℤ → Result ℤ NumFault
 within limit None = Err NotANumber
-within limit (Some z) = if nat_le (unsigned_abs z) limit then Ok z else Err (TooLarge (is_below_zero z))
+within limit (Some z) =
+    if nat_le (unsigned_abs z) limit then Ok z else Err (TooLarge (is_below_zero z))
 
 -- the rounded number of a text, or why there is none: this is what `read_decimal` answers
 unfoldable pub decimal_of : ℕ → ℕ → List ℕ → Result ℤ NumFault
 decimal_of places limit text = within limit (decimal_value places text)
-
--- a number that is read is within the limit
-within_limit : (limit : ℕ) (number : Option ℤ) (z : ℤ) → within limit number ≡ Ok z → unsigned_abs z ≤ limit
-within_limit limit None z h = absurd cc
-within_limit limit (Some y) z h = grind (arith, nat_tests)
-
-pub decimal_of_within : (places limit : ℕ) (text : List ℕ) (z : ℤ) → decimal_of places limit text ≡ Ok z → unsigned_abs z ≤ limit
-unfolding decimal_of
-decimal_of_within places limit text z h = within_limit limit (decimal_value places text) z h

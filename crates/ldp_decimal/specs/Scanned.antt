@@ -1,11 +1,19 @@
--- What the private functions of the reader speak of: the parts as they lie in the text, and their ranges.
-use Rattle.std.specs.Prelude.{◌≡◌, ◌<◌, ℕ, ◌+◌, ◌≤◌, nat_le, Bool, false, List, [], ◌∷◌, ◌++◌, length, Option, Some, None, if◌then◌else◌}
+-- What the private functions of the reader speak of: the parts as they lie in the text, and their
+-- ranges.
+use Rattle.std.specs.Prelude.{◌≡◌, ◌<◌, ℕ, ◌+◌, ◌≤◌, nat_le, Bool, false, List, [], ◌∷◌, ◌++◌}
+use Rattle.std.specs.Prelude.{length, Option, Some, None, if◌then◌else◌}
 use Rattle.ldp_decimal.specs.declared.scan.Scanned.{Scanned}
 use Rattle.ldp_decimal.specs.Grammar.{AreDigits, Parts}
 
 -- the parts that lie in the text
 abbrev pub parts_seen : Scanned → Parts
-parts_seen s = record { negative = s.negative; whole = s.whole.now; fraction = s.fraction.now; raise = s.raise; lower = s.lower }
+parts_seen s = record {
+  negative = s.negative;
+  whole = s.whole.now;
+  fraction = s.fraction.now;
+  raise = s.raise;
+  lower = s.lower;
+}
 
 -- all the digits, without the point
 abbrev pub digits_seen : Scanned → List ℕ

@@ -1,6 +1,8 @@
--- The number grammar, as its texts are spelled: a text is in the grammar where it is the text of such pieces.
--- (The notation of ISO 6093 NR3; the limits, and the exponent that may be left out, are own choices of this project.)
-use Rattle.std.specs.Prelude.{◌≡◌, ℕ, ◌+◌, ◌≤◌, Bool, true, false, List, [], ◌∷◌, ◌++◌, length, Option, Some, None, unwrap_or, if◌then◌else◌}
+-- The number grammar, as its texts are spelled: a text is in the grammar where it is the text of
+-- such pieces. (The notation of ISO 6093 NR3; the limits, and the exponent that may be left out,
+-- are own choices of this project.)
+use Rattle.std.specs.Prelude.{◌≡◌, ℕ, ◌+◌, ◌≤◌, Bool, true, false, List, [], ◌∷◌, ◌++◌, length}
+use Rattle.std.specs.Prelude.{Option, Some, None, unwrap_or, if◌then◌else◌}
 use Rattle.ldp_decimal.specs.Grammar.{AreDigits, Parts, value}
 
 pub data Sign : Type 0 where
@@ -44,7 +46,8 @@ exponent_text (Some e) = letter e.capital ∷ (sign_text e.sign ++ e.power)
 
 -- the text of the pieces
 abbrev pub spelling_text : Spelling → List ℕ
-spelling_text s = sign_text s.sign ++ (s.whole ++ (point_text s.further ++ exponent_text s.exponent))
+spelling_text s =
+    sign_text s.sign ++ (s.whole ++ (point_text s.further ++ exponent_text s.exponent))
 
 -- one to four digits
 abbrev pub IsExponent : Option Exponent → Type 0

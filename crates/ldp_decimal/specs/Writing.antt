@@ -1,5 +1,6 @@
 -- A whole number of units of 10^-places as a decimal text (own choice of this project).
-use Rattle.std.specs.Prelude.{ℕ, zero, suc, ◌-◌, ◌/◌, ◌%◌, ◌^◌, ◌==◌, ℤ, pos, negsuc, unsigned_abs, List, [], ◌∷◌, ◌++◌, length, replicate, decimal, if◌then◌else◌}
+use Rattle.std.specs.Prelude.{ℕ, zero, suc, ◌-◌, ◌/◌, ◌%◌, ◌^◌, ◌==◌, ℤ, pos, negsuc, unsigned_abs}
+use Rattle.std.specs.Prelude.{List, [], ◌∷◌, ◌++◌, length, replicate, decimal, if◌then◌else◌}
 
 -- a minus where the number is below zero
 abbrev pub sign : ℤ → List ℕ
@@ -34,10 +35,15 @@ whole_digits places n = decimal (n / 10 ^ places)
 abbrev pub further_digits : ℕ → ℕ → List ℕ
 further_digits places n = padded places (n % 10 ^ places)
 
--- a minus where z < 0, the whole part without leading zeros, and where places > 0 a point and exactly so many digits
+-- a minus where z < 0, the whole part without leading zeros, and where places > 0 a point and
+-- exactly so many digits
 unfoldable pub decimal_text : ℕ → ℤ → List ℕ
-decimal_text places z = sign z ++ (whole_digits places (unsigned_abs z) ++ pointed (further_digits places (unsigned_abs z)))
+decimal_text places z =
+    let n = unsigned_abs z in
+    sign z ++ (whole_digits places n ++ pointed (further_digits places n))
 
 -- the same without zeros at the end behind the point, and without a point that nothing follows
 unfoldable pub trimmed_text : ℕ → ℤ → List ℕ
-trimmed_text places z = sign z ++ (whole_digits places (unsigned_abs z) ++ pointed (without_zeros (further_digits places (unsigned_abs z))))
+trimmed_text places z =
+    let n = unsigned_abs z in
+    sign z ++ (whole_digits places n ++ pointed (without_zeros (further_digits places n)))

@@ -1,6 +1,7 @@
 //! Decimal texts both ways, by exact rounding.
 //!
-//! A number is a whole number of units of 10^-places; a text is in the number grammar of `specs/Grammar.antt`.
+//! A number is a whole number of units of 10^-places; a text is in the number grammar of
+//! `specs/Grammar.antt`.
 #![tactic(auto)]
 
 mod fault;
@@ -9,8 +10,6 @@ mod power;
 mod read;
 mod round;
 mod scan;
-#[cfg(test)]
-mod tests;
 mod text;
 mod write;
 

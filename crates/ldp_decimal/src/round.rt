@@ -1,7 +1,8 @@
 ghost use Rattle.std.specs.Prelude.{◌≡◌, ◌≤◌, ◌+◌, ◌*◌, ◌^◌, ◌<◌, length, take, drop};
 ghost use Rattle.ldp_decimal.specs.Grammar.{AreDigits, value, value_after};
 ghost use Rattle.ldp_decimal.specs.Fraction.{fraction_of, magnitude};
-ghost use Rattle.ldp_decimal.specs.Scanned.{parts_seen, digits_seen, InRange, IsAtMost, rounds_up, by_digit};
+ghost use Rattle.ldp_decimal.specs.Scanned.{parts_seen, digits_seen, InRange, IsAtMost};
+ghost use Rattle.ldp_decimal.specs.Scanned.{rounds_up, by_digit};
 
 use crate::power::power_of_ten;
 use crate::scan::Scanned;
@@ -49,12 +50,13 @@ fn is_half_from(scanned: &Scanned<'_>, index: usize) -> bool
 }
 
 /// The number of the first `kept` digits, rounded by the others.
-#[tactic(auto, using(crate::proofs::Rounding::by_digit_grows, crate::proofs::Rounding::by_digit_up, crate::proofs::Rounding::by_digit_down))]
+#[tactic(auto, using(crate::proofs::Rounding::by_digit_grows, crate::proofs::Rounding::by_digit_up, crate::proofs::Rounding::by_digit_down,))]
 fn rounded_after(scanned: &Scanned<'_>, kept: usize, limit: u128) -> Option<u128>
     requires range { InRange scanned.now }
     requires kept { kept ≤ length (digits_seen scanned.now) }
     requires limit { limit ≤ 10000000000000000000 }
-    ensures { IsAtMost limit (by_digit (value (take kept (digits_seen scanned.now))) (drop kept (digits_seen scanned.now))) result }
+    ensures { let digits = digits_seen scanned.now in
+        IsAtMost limit (by_digit (value (take kept digits)) (drop kept digits)) result }
 {
     let number = leading(scanned, kept, limit)?;
     if !is_half_from(scanned, kept) {

@@ -1,7 +1,8 @@
 ghost use Rattle.std.specs.Prelude.{◌≡◌, ◌≤◌, ◌+◌, MatchOption, IfSome, OnSome, Some, None, length};
 ghost use Rattle.std.specs.List.{prefix_len, list_all};
 ghost use Rattle.std.specs.Char.{is_ascii_digit};
-ghost use Rattle.ldp_decimal.specs.Grammar.{AreDigits, signed, digits, behind_point, power, exponent, parts, parts_of, value_after};
+ghost use Rattle.ldp_decimal.specs.Grammar.{AreDigits, signed, digits, behind_point, power};
+ghost use Rattle.ldp_decimal.specs.Grammar.{exponent, parts, parts_of, value_after};
 ghost use Rattle.ldp_decimal.specs.Scanned.{parts_seen, InRange};
 
 /// The parts of a number's text, as they lie in it.
@@ -100,7 +101,7 @@ fn exponent_of(text: &[u8]) -> Option<(u32, u32)>
 }
 
 /// The parts of a text that is in the number grammar.
-#[tactic(auto, unfolding(crate::specs::Grammar::parts, crate::specs::Grammar::parts_of, crate::specs::Grammar::with_exponent))]
+#[tactic(auto, unfolding(crate::specs::Grammar::parts, crate::specs::Grammar::parts_of, crate::specs::Grammar::with_exponent,))]
 pub fn scan(text: &[u8]) -> Option<Scanned<'_>>
     ensures value { MatchOption result (parts text.now ≡ None) (λ s. parts text.now ≡ Some (parts_seen s)) }
     ensures range { IfSome result InRange }

@@ -1,5 +1,7 @@
-ghost use Rattle.std.specs.Prelude.{◌≡◌, ◌≤◌, ◌<◌, ◌≤ℤ◌, ◌++◌, pos, negsuc, unsigned_abs, IfOk, OnOk, length, drop};
-ghost use Rattle.ldp_decimal.specs.Writing.{sign, whole_digits, further_digits, pointed, without_zeros, decimal_text, trimmed_text};
+ghost use Rattle.std.specs.Prelude.{◌≡◌, ◌≤◌, ◌<◌, ◌≤ℤ◌, ◌++◌, pos, negsuc, unsigned_abs};
+ghost use Rattle.std.specs.Prelude.{IfOk, OnOk, length, drop};
+ghost use Rattle.ldp_decimal.specs.Writing.{sign, whole_digits, further_digits, pointed};
+ghost use Rattle.ldp_decimal.specs.Writing.{without_zeros, decimal_text, trimmed_text};
 
 use crate::power::power_of_ten;
 use crate::text::Text;
@@ -56,7 +58,8 @@ fn trimmed(digits: &[u8]) -> &[u8]
     &digits[..kept]
 }
 
-/// `v` units of 10^-`places`, with exactly `places` digits behind the point, and no point where `places` is 0.
+/// `v` units of 10^-`places`, with exactly `places` digits behind the point, and no point where
+/// `places` is 0.
 #[tactic(auto, unfolding(crate::specs::Writing::decimal_text))]
 pub fn write_decimal(alloc: Global, v: i128, places: u32) -> Result<Text, Memory>
     requires places { places ≤ 15 }

@@ -1,5 +1,5 @@
 -- The tokens of a text, one after another.
-use Rattle.std.proofs.Common.{◌≡◌, ℕ, suc, ◌+◌, ◌<◌, Bool, true, false, List, [], ◌∷◌, length, take, drop, arith, refl, ap, ◌∙◌, filter, if◌then◌else◌}
+use Rattle.std.proofs.Common.{◌≡◌, ℕ, suc, ◌+◌, ◌<◌, Bool, true, false, List, [], ◌∷◌, length, take, drop, arith, refl, ap, ◌∙◌, filter, if◌then◌else◌, length-drop}
 use Rattle.std.specs.List.{prefix_len, position_or_len}
 use Rattle.ldp_tokens.specs.Tokens.{Token, is_white, is_sign, ends_run, is_some_run, pieces, tokens, token_len}
 
@@ -150,3 +150,10 @@ pub tokens-none : (signs : List ℕ) (place gap : ℕ) (text after : List ℕ) �
 tokens-none signs place gap text after g a h =
     let skipped : tokens signs place text ≡ tokens signs (place + gap) after = rw (a, g) (tokens-skip signs place text) in
     skipped ∙ ap (tokens signs (place + gap)) (nothing after h)
+
+-- nor has what is left of it
+pub tokens-left : (signs : List ℕ) (place count : ℕ) (after rest : List ℕ) → rest ≡ drop count after
+    → length after ≡ 0 → tokens signs place rest ≡ []
+tokens-left signs place count after rest r h =
+    let empty : length (drop count after) ≡ 0 = rw (length-drop count after) (omega (arith, h)) in
+    ap (tokens signs place) (r ∙ nothing (drop count after) empty)

@@ -1,7 +1,10 @@
--- The tokens of a text: the longest runs of bytes that are no white space and no sign, and each sign alone, each with the place
--- of its first byte. Which bytes are signs is an argument; a byte of white space is no sign.
-use Rattle.std.specs.Prelude.{ℕ, ◌+◌, Bool, true, false, ◌||◌, ◌==◌, nat_eq, List, [], ◌∷◌, drop, filter, if◌then◌else◌}
-use Rattle.std.specs.List.{list_any, starts_with, position_or_len}
+-- The tokens of a text: the longest runs of bytes that are no white space and no sign, and each sign
+-- alone, each with the place of its first byte. Which bytes are signs is an argument; a byte of white
+-- space is no sign.
+use Rattle.std.specs.Prelude.{ℕ, ◌+◌, Bool, true, false, ◌||◌, ◌==◌, List, [], ◌∷◌, filter}
+use Rattle.std.specs.Prelude.{if◌then◌else◌}
+use Rattle.std.specs.List.{list_any, position_or_len}
+use Rattle.ldp_tokens.specs.Mark.{mark_len, without_mark}
 
 -- a run of bytes, or a sign, that begins at a place of the text, counted from 0
 pub record Token : Type 0 where
@@ -21,12 +24,15 @@ abbrev pub onto_first : ℕ → ℕ → List Token → List Token
 onto_first place byte [] = record { place = place; bytes = byte ∷ [] } ∷ []
 onto_first place byte (piece ∷ pieces) = record { place = place; bytes = byte ∷ piece.bytes } ∷ pieces
 
--- the signs, and the pieces between them and the bytes of white space, also the empty ones; the text begins at this place
+-- the signs, and the pieces between them and the bytes of white space, also the empty ones; the text
+-- begins at this place
 abbrev pub pieces : List ℕ → ℕ → List ℕ → List Token
 pieces signs place [] = record { place = place; bytes = [] } ∷ []
 pieces signs place (byte ∷ bytes) =
     if is_white byte then record { place = place; bytes = [] } ∷ pieces signs (place + 1) bytes
-    else if is_sign signs byte then record { place = place; bytes = [] } ∷ record { place = place; bytes = byte ∷ [] } ∷ pieces signs (place + 1) bytes
+    else if is_sign signs byte
+    then record { place = place; bytes = [] } ∷ record { place = place; bytes = byte ∷ [] }
+    ∷ pieces signs (place + 1) bytes
     else onto_first place byte (pieces signs (place + 1) bytes)
 
 abbrev pub is_some_run : List ℕ → Bool
@@ -37,13 +43,9 @@ is_some_run (byte ∷ bytes) = true
 abbrev pub tokens : List ℕ → ℕ → List ℕ → List Token
 tokens signs place text = filter (λ piece. is_some_run piece.bytes) (pieces signs place text)
 
--- the mark EF BB BF (byte order mark of UTF-8) that a text may begin with
-abbrev pub mark : List ℕ
-mark = 239 ∷ 187 ∷ 191 ∷ []
-
 -- the tokens of a whole text: a mark in front is skipped, and its bytes are counted
 abbrev pub tokens_of : List ℕ → List ℕ → List Token
-tokens_of signs text = if starts_with nat_eq text mark then tokens signs 3 (drop 3 text) else tokens signs 0 text
+tokens_of signs text = tokens signs (mark_len text) (without_mark text)
 
 abbrev pub ends_run : List ℕ → ℕ → Bool
 ends_run signs byte = is_white byte || is_sign signs byte

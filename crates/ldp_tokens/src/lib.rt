@@ -1,10 +1,11 @@
-//! The tokens of a text: its longest runs of bytes that are no white space and no sign, and each sign alone, each with its place.
+//! The tokens of a text: its longest runs of bytes that are no white space and no sign, and each
+//! sign alone, each with its place.
 //!
 //! White space is space, tab, line feed and carriage return; which bytes are signs, the caller says.
 #![tactic(auto)]
 
-#[cfg(test)]
-mod tests;
+mod mark;
 mod tokens;
 
+pub use mark::skip_mark;
 pub use tokens::{Token, Tokens};

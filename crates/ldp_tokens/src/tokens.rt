@@ -1,8 +1,9 @@
-ghost use Rattle.std.specs.Prelude.{◌≡◌, ◌≤◌, [], ◌∷◌, length, nat_eq, IsTrue, MatchOption};
-ghost use Rattle.std.specs.List.{prefix_len, position_or_len, starts_with};
-ghost use Rattle.ldp_tokens.specs.Tokens.{is_white, is_sign, ends_run, token_len, mark, tokens_of};
+ghost use Rattle.std.specs.Prelude.{◌≡◌, ◌≤◌, [], ◌∷◌, length, MatchOption};
+ghost use Rattle.std.specs.List.{prefix_len, position_or_len};
+ghost use Rattle.ldp_tokens.specs.Tokens.{is_white, is_sign, ends_run, token_len, tokens_of};
 ghost use Rattle.ldp_tokens.specs.Seen.{seen};
 
+use crate::mark::skip_mark;
 use std::marker::Model;
 
 /// A sign, or a run of bytes that are no sign and no white space.
@@ -33,29 +34,23 @@ impl<'a> Model for Tokens<'a> {
 }
 
 impl<'a> Tokens<'a> {
-    /// The tokens of a whole text. A mark EF BB BF in front is skipped and counted. A sign that is white space counts as white space.
+    /// The tokens of a whole text. A mark EF BB BF in front is skipped and counted. A sign that is
+    /// white space counts as white space.
     pub fn of_text(text: &'a [u8], signs: &'a [u8]) -> Self
         ensures { result ≡ tokens_of signs.now text.now }
     {
-        if begins_with_mark(text) {
-            let (_, rest) = text.split_at(3);
-            Tokens {
-                text: rest,
-                signs,
-                place: 3,
-            }
-        } else {
-            Tokens {
-                text,
-                signs,
-                place: 0,
-            }
+        let rest = skip_mark(text);
+        Tokens {
+            text: rest,
+            signs,
+            place: text.len() - rest.len(),
         }
     }
 
     /// Takes the first token that is left.
     pub fn next(&mut self) -> Option<Token<'a>>
-        ensures { MatchOption result (self.old ≡ []) (λ token. self.old ≡ seen token ∷ self.new) }
+        ensures { MatchOption result ((self.old ≡ []) × (self.new ≡ []))
+            (λ token. self.old ≡ seen token ∷ self.new) }
     {
         let gap = white_len(self.text);
         let (_, text) = self.text.split_at(gap);
@@ -69,14 +64,6 @@ impl<'a> Tokens<'a> {
         }
         Some(Token { place, bytes })
     }
-}
-
-/// The byte order mark of UTF-8.
-fn begins_with_mark(text: &[u8]) -> bool
-    ensures value { result ≡ starts_with nat_eq text.now mark }
-    ensures within { IsTrue result → 3 ≤ length text.now }
-{
-    matches!(text, [0xef, 0xbb, 0xbf, ..])
 }
 
 /// How many bytes of white space a text begins with.
@@ -123,6 +110,6 @@ fn is_white(byte: u8) -> bool
 fn is_sign(signs: &[u8], byte: u8) -> bool
     ensures { result ≡ is_sign signs.now byte }
 {
-    // There are few signs, so a plain loop takes less time than `contains`, which goes by groups of elements.
+    // There are few signs: a plain loop takes less time than `contains`, which goes by groups.
     signs.iter().any(|sign| *sign == byte)
 }
