@@ -1,3 +1,4 @@
 mod Values
 mod Pairs
 mod Fronts
+mod Wholes

@@ -5,5 +5,6 @@ use Rattle.ldp_decimal.specs.Grammar.{value_after}
 pub value_grows : (n : ℕ) (digits : List ℕ) → n ≤ value_after n digits
 value_grows n [] = omega arith
 value_grows n (digit ∷ digits) =
-    let more : n * 10 + (digit - 48) ≤ value_after (n * 10 + (digit - 48)) digits = value_grows (n * 10 + (digit - 48)) digits in
+    let more = n * 10 + (digit - 48) in
+    let grown : more ≤ value_after more digits = value_grows more digits in
     omega arith

@@ -1,6 +1,7 @@
+pub mod Grid
 pub mod Classes
 pub mod Header
-pub mod Grid
 pub mod Reading
 pub mod Ranges
+pub mod Whole
 pub mod Seen

@@ -1,19 +1,15 @@
 -- What the values of a header keep.
-use Rattle.std.specs.Prelude.{ℕ, ◌*◌, ◌≤◌, pos, negsuc, ◌≤ℤ◌, IfSome}
-use Rattle.ldp_heights.specs.Grid.{IsCoordinate}
-use Rattle.ldp_heights.specs.declared.class.Class.{Class}
-use Rattle.ldp_heights.specs.declared.class.Class.TheVariants.{Millimetres}
-use Rattle.ldp_heights.specs.declared.header.Header.{Header}
-use Rattle.ldp_heights.specs.declared.header.Layout.{Layout}
+use Rattle.std.specs.Prelude.{ℕ, ◌*◌, ◌≤◌, neg_ℤ, IfSome}
+use Rattle.ldp_quantity.specs.Between.{IsBetween}
+use Rattle.ldp_heights.specs.Grid.{IsCoordinate, IsSpacing, most_places, metres}
+use Rattle.ldp_heights.specs.Classes.{Class, millimetres}
+use Rattle.ldp_heights.specs.Header.{Header, Layout}
 
 abbrev pub IsCount : ℕ → Type 0
-IsCount n = (1 ≤ n) × (n ≤ 4_000_000)
-
-abbrev pub IsSpacing : ℕ → Type 0
-IsSpacing n = (1 ≤ n) × (n ≤ 10_000_000_000_000)
+IsCount n = (1 ≤ n) × (n ≤ most_places)
 
 abbrev pub IsClass : Class → Type 0
-IsClass (Millimetres n) = (negsuc 99_999_999 ≤ℤ n) × (n ≤ℤ pos 100_000_000)
+IsClass (millimetres n) = IsBetween (neg_ℤ (metres 100_000)) (metres 100_000) n
 IsClass _ = Unit {0}
 
 -- the values of the words that were met
@@ -27,7 +23,7 @@ pub record AreInRange (met : Header) : Type 0 where
 pub record IsLayout (layout : Layout) : Type 0 where
   pub cols : 1 ≤ layout.cols
   pub rows : 1 ≤ layout.rows
-  pub places : layout.cols * layout.rows ≤ 4_000_000
+  pub places : layout.cols * layout.rows ≤ most_places
   pub x : IsCoordinate layout.x
   pub y : IsCoordinate layout.y
   pub spacing : IsSpacing layout.spacing

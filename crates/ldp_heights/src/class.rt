@@ -1,6 +1,7 @@
-ghost use Rattle.std.specs.Prelude.{◌≡◌, IfSome};
+ghost use Rattle.std.specs.Prelude.{◌≡◌, option_map, IfSome};
 ghost use Rattle.ldp_heights.specs.Classes.{is_nan, class_of, same_class};
 ghost use Rattle.ldp_heights.specs.Ranges.{IsClass};
+ghost use Rattle.ldp_heights.specs.Seen.{class_seen};
 
 use ldp_decimal::{NumFault, read_decimal};
 
@@ -16,7 +17,7 @@ pub enum Class {
 
 impl Class {
     pub fn is_same(self, other: Class) -> bool
-        ensures { result ≡ same_class self other }
+        ensures { result ≡ same_class (class_seen self) (class_seen other) }
     {
         match (self, other) {
             (Class::Nan, Class::Nan) => true,
@@ -34,8 +35,8 @@ const HIGHEST: i128 = 100_000_000;
 /// The class of a text, or None where it is neither `nan` nor a number.
 #[tactic(auto, unfolding(crate::specs::Classes::class_of))]
 pub fn class_of(bytes: &[u8]) -> Option<Class>
-    ensures value { result ≡ class_of bytes.now }
-    ensures range { IfSome result IsClass }
+    ensures value { option_map class_seen result ≡ class_of bytes.now }
+    ensures range { IfSome result (λ class. IsClass (class_seen class)) }
 {
     if is_nan(bytes) {
         return Some(Class::Nan);

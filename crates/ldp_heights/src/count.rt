@@ -2,6 +2,7 @@ ghost use Rattle.std.specs.Prelude.{◌≡◌, nat_le, IfOk, if◌then◌else◌
 ghost use Rattle.std.specs.List.{list_all};
 ghost use Rattle.std.specs.Char.{is_ascii_digit};
 ghost use Rattle.ldp_decimal.specs.Grammar.{value};
+ghost use Rattle.ldp_heights.specs.Grid.{most_places};
 ghost use Rattle.ldp_heights.specs.Ranges.{IsCount};
 ghost use Rattle.ldp_tokens.specs.Seen.{seen};
 ghost use Rattle.ldp_heights.specs.Header.{count_of};
@@ -35,7 +36,7 @@ fn are_digits(bytes: &[u8]) -> bool
 
 /// The number that digits stand for, if it is at most the most places.
 fn digits_value(digits: &[u8]) -> Option<u32>
-    ensures { result ≡ (if nat_le (value digits.now) 4_000_000 then Some (value digits.now) else None) }
+    ensures { let n = value digits.now in result ≡ (if nat_le n most_places then Some n else None) }
 {
     let mut value = 0;
     for digit in digits {

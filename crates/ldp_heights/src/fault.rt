@@ -3,7 +3,8 @@ ghost use Rattle.ldp_heights.specs.declared.fault.HeightFault.TheVariants.{Memor
 
 use std::alloc::{AllocError, AllocFailed};
 
-/// A word of the header of an Esri ASCII grid; the corner's and the centre's form of a coordinate are one word.
+/// A word of the header of an Esri ASCII grid; the corner's and the centre's form of a coordinate
+/// are one word.
 #[derive(Clone, Copy, Debug, PartialEq, Eq)]
 pub enum Word {
     Ncols,

@@ -1,10 +1,14 @@
-ghost use Rattle.std.specs.Prelude.{◌≡◌, ◌<◌, ◌≤◌, ◌*◌, ◌≤ℤ◌, pos, negsuc, length, All};
-ghost use Rattle.ldp_heights.specs.Grid.{height_at, centre_x, centre_y, IsHeight};
+ghost use Rattle.std.specs.Prelude.{◌≡◌, ◌<◌, ◌≤◌, ◌*◌, neg_ℤ, length, All};
+ghost use Rattle.ldp_quantity.specs.Between.{IsBetween};
+ghost use Rattle.ldp_quantity.specs.Quantity.{degrees};
+ghost use Rattle.ldp_heights.specs.Grid.{place_height, centre_x, centre_y, most_places};
+ghost use Rattle.ldp_heights.specs.Grid.{IsHeight, IsHeightGrid};
 ghost use Rattle.ldp_heights.specs.Ranges.{IsLayout};
 ghost use Rattle.ldp_heights.specs.Reading.{grid_with};
+ghost use Rattle.ldp_heights.specs.Seen.{layout_seen};
 
 use crate::coordinate::{Coordinate, centre_along};
-use crate::header::Layout;
+use crate::layout::Layout;
 use std::marker::Model;
 
 /// A grid of ellipsoid heights over latitude and longitude, as it was read.
@@ -20,14 +24,15 @@ pub struct Heights {
 
 impl Model for Heights {
     ghost use Rattle.ldp_heights.specs.Grid.{HeightGrid, IsHeightGrid};
+    ghost use Rattle.ldp_heights.specs.Seen.{coordinate_seen};
 
     ghost Value = { HeightGrid };
 
     ghost view = { λ grid. record {
       rows = grid.rows;
       cols = grid.cols;
-      x = grid.x;
-      y = grid.y;
+      x = coordinate_seen grid.x;
+      y = coordinate_seen grid.y;
       spacing = grid.spacing;
       heights = grid.heights.items;
     } };
@@ -35,8 +40,8 @@ impl Model for Heights {
     ghost invariant = { λ grid. IsHeightGrid record {
       rows = grid.rows;
       cols = grid.cols;
-      x = grid.x;
-      y = grid.y;
+      x = coordinate_seen grid.x;
+      y = coordinate_seen grid.y;
       spacing = grid.spacing;
       heights = grid.heights.items;
     } };
@@ -44,11 +49,11 @@ impl Model for Heights {
 
 impl Heights {
     /// The grid of a header with the heights of all its places.
-    pub fn with_layout(layout: &Layout, heights: Vec<Option<i32>>) -> Self
-        requires layout { IsLayout layout.now }
+    pub(crate) fn with_layout(layout: &Layout, heights: Vec<Option<i32>>) -> Self
+        requires layout { IsLayout (layout_seen layout.now) }
         requires each_place { length heights.items ≡ layout.now.cols * layout.now.rows }
         requires range { All IsHeight heights.items }
-        ensures { result ≡ grid_with layout.now heights.items }
+        ensures { result ≡ grid_with (layout_seen layout.now) heights.items }
     {
         Heights {
             rows: layout.rows,
@@ -60,18 +65,20 @@ impl Heights {
         }
     }
 
+    /// At least one.
     pub fn rows(&self) -> u32
         ensures value { result ≡ self.now.rows }
-        ensures range { (1 ≤ result) × (result ≤ 4_000_000) }
-        ensures places { self.now.cols * result ≤ 4_000_000 }
+        ensures range { (1 ≤ result) × (result ≤ most_places) }
+        ensures keeps { IsHeightGrid self.now }
     {
         self.rows
     }
 
+    /// At least one.
     pub fn cols(&self) -> u32
         ensures value { result ≡ self.now.cols }
-        ensures range { (1 ≤ result) × (result ≤ 4_000_000) }
-        ensures places { result * self.now.rows ≤ 4_000_000 }
+        ensures range { (1 ≤ result) × (result ≤ most_places) }
+        ensures keeps { IsHeightGrid self.now }
     {
         self.cols
     }
@@ -80,7 +87,7 @@ impl Heights {
     pub fn mm(&self, row: u32, col: u32) -> Option<i32>
         requires row { row < self.now.rows }
         requires col { col < self.now.cols }
-        ensures value { result ≡ height_at self.now row col }
+        ensures value { result ≡ place_height self.now row col }
         ensures range { IsHeight result }
     {
         let place = row as usize * self.cols as usize + col as usize;
@@ -93,8 +100,8 @@ impl Heights {
         requires col { col < self.now.cols }
         ensures x { result.0 ≡ centre_x self.now col }
         ensures y { result.1 ≡ centre_y self.now row }
-        ensures x_range { (negsuc 359_999_999_999_999 ≤ℤ result.0) × (result.0 ≤ℤ pos 100_000_000_000_000_000_000) }
-        ensures y_range { (negsuc 359_999_999_999_999 ≤ℤ result.1) × (result.1 ≤ℤ pos 100_000_000_000_000_000_000) }
+        ensures x_range { IsBetween (neg_ℤ (degrees 360)) (degrees 100_000_000) result.0 }
+        ensures y_range { IsBetween (neg_ℤ (degrees 360)) (degrees 100_000_000) result.1 }
     {
         let x = centre_along(&self.x, self.spacing, col);
         let y = centre_along(&self.y, self.spacing, self.rows - 1 - row);

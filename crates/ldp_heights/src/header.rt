@@ -1,29 +1,19 @@
 ghost use Rattle.std.specs.Prelude.{◌≡◌, IfOk};
-ghost use Rattle.std.specs.Result.{result_map_both};
-ghost use Rattle.std.specs.Str.{str_eq_ignore_ascii_case};
-ghost use Rattle.ldp_heights.specs.Header.{begins_height, begins_number, header_word, is_met, word_at, nodata_of, with_value, header_of, no_words, layout_of, headed};
+ghost use Rattle.ldp_heights.specs.Header.{begins_height, begins_number, is_met};
+ghost use Rattle.ldp_heights.specs.Header.{word_at, nodata_of, with_value, header_of, no_words};
+ghost use Rattle.ldp_heights.specs.Header.{layout_of, headed};
 ghost use Rattle.ldp_heights.specs.Ranges.{AreInRange, IsLayout};
 ghost use Rattle.ldp_tokens.specs.Seen.{seen};
-ghost use Rattle.ldp_heights.specs.Seen.{ahead};
+ghost use Rattle.ldp_heights.specs.Seen.{ahead, class_seen, name_seen, header_seen, layout_seen};
+ghost use Rattle.ldp_heights.specs.Seen.{result_seen};
 
 use crate::class::{Class, class_of, is_nan};
 use crate::coordinate::{Coordinate, read_coordinate, read_spacing};
 use crate::count::{MOST_PLACES, read_count};
 use crate::fault::{HeightFault, Word};
+use crate::header_word::{HeaderWord, header_word};
+use crate::layout::Layout;
 use ldp_tokens::{Token, Tokens};
-
-/// A word of the header, with the form of a coordinate.
-#[derive(Clone, Copy)]
-pub enum HeaderWord {
-    Ncols,
-    Nrows,
-    XllCorner,
-    XllCenter,
-    YllCorner,
-    YllCenter,
-    Cellsize,
-    NodataValue,
-}
 
 /// The words met so far, with their values.
 #[derive(Clone, Copy)]
@@ -36,25 +26,13 @@ pub struct Header {
     pub nodata: Option<Class>,
 }
 
-/// What a whole header says of the grid.
-#[derive(Clone, Copy)]
-pub struct Layout {
-    pub cols: u32,
-    pub rows: u32,
-    pub x: Coordinate,
-    pub y: Coordinate,
-    pub spacing: u64,
-    /// The class of a missing height.
-    pub missing: Class,
-}
-
 /// A missing height where the header names none: -9999 metres, in millimetres.
 const MISSING: i32 = -9_999_000;
 
 impl Header {
     pub fn empty() -> Self
-        ensures value { result ≡ no_words }
-        ensures range { AreInRange result }
+        ensures value { header_seen result ≡ no_words }
+        ensures range { AreInRange (header_seen result) }
     {
         Header {
             ncols: None,
@@ -68,7 +46,7 @@ impl Header {
 
     /// Whether a word was met, or the other form of its coordinate.
     fn is_met(&self, word: HeaderWord) -> bool
-        ensures { result ≡ is_met self.now word }
+        ensures { result ≡ is_met (header_seen self.now) (name_seen word) }
     {
         match word {
             HeaderWord::Ncols => self.ncols.is_some(),
@@ -85,7 +63,7 @@ impl Header {
     /// The word that a token is, which was not met before.
     #[tactic(auto, unfolding(crate::specs::Header::word_at))]
     fn word_at(&self, token: &Token<'_>) -> Result<HeaderWord, HeightFault>
-        ensures { result ≡ word_at self.now (seen token.now) }
+        ensures { result_seen name_seen result ≡ word_at (header_seen self.now) (seen token.now) }
     {
         match header_word(token.bytes) {
             None => Err(HeightFault::UnknownWord(token.place)),
@@ -97,8 +75,10 @@ impl Header {
     /// The words met, with a value for this one.
     #[tactic(auto, unfolding(crate::specs::Header::with_value))]
     fn with_value(&self, word: HeaderWord, token: &Token<'_>) -> Result<Header, HeightFault>
-        ensures value { result ≡ with_value self.now word (seen token.now) }
-        ensures range { AreInRange self.now → IfOk result AreInRange }
+        ensures value { result_seen header_seen result
+            ≡ with_value (header_seen self.now) (name_seen word) (seen token.now) }
+        ensures range { AreInRange (header_seen self.now)
+            → IfOk result (λ met. AreInRange (header_seen met)) }
     {
         let met = *self;
         match word {
@@ -140,9 +120,9 @@ impl Header {
     /// What the header says, where no word is missing and the places are not too many.
     #[tactic(auto, unfolding(crate::specs::Header::layout_of))]
     pub fn layout(&self) -> Result<Layout, HeightFault>
-        requires { AreInRange self.now }
-        ensures value { result ≡ layout_of self.now }
-        ensures range { IfOk result IsLayout }
+        requires { AreInRange (header_seen self.now) }
+        ensures value { result_seen layout_seen result ≡ layout_of (header_seen self.now) }
+        ensures range { IfOk result (λ layout. IsLayout (layout_seen layout)) }
     {
         let cols = self.ncols.ok_or(HeightFault::MissingWord(Word::Ncols))?;
         let rows = self.nrows.ok_or(HeightFault::MissingWord(Word::Nrows))?;
@@ -166,14 +146,17 @@ impl Header {
     }
 }
 
-/// Reads the pairs of a header, up to the token that begins a height, which is answered too, or to the end.
+/// Reads the pairs of a header, up to the token that begins a height, which is answered too, or to
+/// the end.
 #[tactic(auto, unfolding(crate::specs::Header::header_of))]
 pub fn read_header<'a>(
     tokens: &mut Tokens<'a>,
     end: usize,
 ) -> Result<(Header, Option<Token<'a>>), HeightFault>
-    ensures value { result_map_both (λ read. headed read.0 (ahead read.1 tokens.new)) (λ fault. fault) result ≡ header_of end no_words tokens.old }
-    ensures range { IfOk result (λ read. AreInRange read.0) }
+    ensures value { result_seen
+        (λ read. headed (header_seen read.0) (ahead read.1 tokens.new)) result
+        ≡ header_of end no_words tokens.old }
+    ensures range { IfOk result (λ read. AreInRange (header_seen read.0)) }
 {
     let mut header = Header::empty();
     while let Some(token) = tokens.next() {
@@ -191,7 +174,7 @@ pub fn read_header<'a>(
 
 /// The class of a missing height.
 fn read_nodata(token: &Token<'_>) -> Result<Class, HeightFault>
-    ensures { result ≡ nodata_of (seen token.now) }
+    ensures { result_seen class_seen result ≡ nodata_of (seen token.now) }
 {
     class_of(token.bytes).ok_or(HeightFault::BadNumber(token.place))
 }
@@ -210,36 +193,4 @@ fn begins_number(bytes: &[u8]) -> bool
         [] => false,
         [first, ..] => first.is_ascii_digit() || matches!(*first, b'+' | b'-' | b'.'),
     }
-}
-
-/// The word that a token is, in any case.
-#[tactic(auto, unfolding(crate::specs::Header::header_word))]
-fn header_word(bytes: &[u8]) -> Option<HeaderWord>
-    ensures { result ≡ header_word bytes.now }
-{
-    if is_word(bytes, b"ncols") {
-        Some(HeaderWord::Ncols)
-    } else if is_word(bytes, b"nrows") {
-        Some(HeaderWord::Nrows)
-    } else if is_word(bytes, b"xllcorner") {
-        Some(HeaderWord::XllCorner)
-    } else if is_word(bytes, b"xllcenter") {
-        Some(HeaderWord::XllCenter)
-    } else if is_word(bytes, b"yllcorner") {
-        Some(HeaderWord::YllCorner)
-    } else if is_word(bytes, b"yllcenter") {
-        Some(HeaderWord::YllCenter)
-    } else if is_word(bytes, b"cellsize") {
-        Some(HeaderWord::Cellsize)
-    } else if is_word(bytes, b"nodata_value") {
-        Some(HeaderWord::NodataValue)
-    } else {
-        None
-    }
-}
-
-fn is_word(bytes: &[u8], word: &[u8]) -> bool
-    ensures { result ≡ str_eq_ignore_ascii_case bytes.now word.now }
-{
-    bytes.eq_ignore_ascii_case(word)
 }

@@ -1,6 +1,7 @@
 //! Reads grids of ellipsoid heights, and tells the height and the centre of each place.
 //!
-//! A grid is a text in Esri's ASCII raster format, over latitude and longitude in degrees, with heights in metres.
+//! A grid is a text in Esri's ASCII raster format, over latitude and longitude in degrees, with
+//! heights in metres.
 #![tactic(auto)]
 
 mod class;
@@ -9,9 +10,10 @@ mod count;
 mod fault;
 mod grid;
 mod header;
+mod header_word;
+pub mod laws;
+mod layout;
 mod read;
-#[cfg(test)]
-mod tests;
 
 pub use fault::{HeightFault, Word};
 pub use grid::Heights;

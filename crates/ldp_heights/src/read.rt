@@ -2,17 +2,18 @@ ghost use Rattle.std.specs.Prelude.{◌≡◌, ◌≢◌, ◌*◌, ◌≤◌, le
 ghost use Rattle.ldp_heights.specs.Grid.{IsHeight};
 ghost use Rattle.ldp_heights.specs.Ranges.{IsLayout};
 ghost use Rattle.ldp_tokens.specs.Seen.{seen};
-ghost use Rattle.ldp_heights.specs.Seen.{ahead};
-ghost use Rattle.ldp_heights.specs.Reading.{height_of, heights_from, heights_of};
+ghost use Rattle.ldp_heights.specs.Seen.{ahead, class_seen, layout_seen};
+ghost use Rattle.ldp_heights.specs.Reading.{height_of, heights_under, heights_of};
 
 use crate::class::{Class, class_of};
 use crate::fault::HeightFault;
 use crate::grid::Heights;
-use crate::header::{Layout, read_header};
+use crate::header::read_header;
+use crate::layout::Layout;
 use ldp_tokens::{Token, Tokens};
 use std::alloc::Global;
 
-/// Reads the text of an Esri ASCII grid whose heights are ellipsoid heights in metres, over degrees.
+/// Reads the text of an Esri ASCII grid of ellipsoid heights in metres, over degrees.
 #[tactic(auto, unfolding(crate::specs::Reading::heights_of, crate::specs::Reading::grid_of))]
 pub fn read_heights(alloc: Global, text: &[u8]) -> Result<Heights, HeightFault>
     ensures exact { result ≢ Err HeightFault.Memory → result ≡ heights_of text.now }
@@ -31,10 +32,13 @@ fn read_places<'a>(
     first: Option<Token<'a>>,
     tokens: &mut Tokens<'a>,
 ) -> Result<Vec<Option<i32>>, HeightFault>
-    requires { IsLayout layout.now }
-    ensures value { IfOk result (λ heights. heights_from layout.now.missing (layout.now.cols * layout.now.rows) 0 (ahead first.entry tokens.old) ≡ Ok heights.items) }
-    ensures fault { IfErr result (λ fault. fault ≢ HeightFault.Memory → heights_from layout.now.missing (layout.now.cols * layout.now.rows) 0 (ahead first.entry tokens.old) ≡ Err fault) }
-    ensures each_place { IfOk result (λ heights. length heights.items ≡ layout.now.cols * layout.now.rows) }
+    requires { IsLayout (layout_seen layout.now) }
+    ensures value { IfOk result (λ heights.
+        heights_under (layout_seen layout.now) (ahead first.entry tokens.old) ≡ Ok heights.items) }
+    ensures fault { IfErr result (λ fault. fault ≢ HeightFault.Memory →
+        heights_under (layout_seen layout.now) (ahead first.entry tokens.old) ≡ Err fault) }
+    ensures each_place { IfOk result (λ heights.
+        length heights.items ≡ layout.now.cols * layout.now.rows) }
     ensures range { IfOk result (λ heights. All IsHeight heights.items) }
 {
     let places = (layout.cols * layout.rows) as usize;
@@ -57,7 +61,7 @@ fn read_places<'a>(
 /// A height in millimetres, or None where its class is the missing one.
 #[tactic(auto, unfolding(crate::specs::Reading::height_of))]
 fn read_height(missing: Class, token: &Token<'_>) -> Result<Option<i32>, HeightFault>
-    ensures value { result ≡ height_of missing (seen token.now) }
+    ensures value { result ≡ height_of (class_seen missing) (seen token.now) }
     ensures range { IfOk result IsHeight }
 {
     let class = class_of(token.bytes).ok_or(HeightFault::BadNumber(token.place))?;
