@@ -3,6 +3,8 @@ mod Walks
 mod Rings
 mod Sides
 mod Outside
+mod TokensLeft
 mod Phrases
 mod Resumed
 mod Agreement
+mod Numbers

@@ -1,5 +1,6 @@
 -- A product of a wide and a narrow difference fits 128 bits.
-use Rattle.std.proofs.Common.{◌≡◌, ◌≤◌, to_z, of_z, ℤ, pos, negsuc, ◌*ℤ◌, FitsSigned, unsigned_abs, arith}
+use Rattle.std.proofs.Common.{◌≡◌, ◌≤◌, to_z, of_z, ℤ, pos, negsuc, ◌*ℤ◌, FitsSigned, unsigned_abs}
+use Rattle.std.proofs.Common.{arith}
 use Rattle.std.specs.Int.{w128}
 use Rattle.std.proofs.lemmas.Int.{ints, fits_signed_mul, fits_signed_from_abs, to_z-of_z}
 use Rattle.ldp_zone.specs.Products.{IsWide, IsNarrow}
@@ -14,7 +15,8 @@ narrow-abs (negsuc n) h = omega (arith, ints)
 
 pub fits_product : (a b : ℤ) → IsWide a → IsNarrow b → FitsSigned w128 (a *ℤ b)
 fits_product a b h k =
-    fits_signed_mul w128 a b 200_000_000_000_000_000_000 800_000_000_000_000 (wide-abs a h) (narrow-abs b k) (omega arith)
+    fits_signed_mul w128 a b 200_000_000_000_000_000_000 800_000_000_000_000 (wide-abs a h)
+    (narrow-abs b k) (omega arith)
 
 pub wide_back : (z : ℤ) → IsWide z → to_z w128 (of_z w128 z) ≡ z
 wide_back z h =

@@ -1,15 +1,11 @@
--- Where points may lie, in 10^-12 degrees. (Own choice of this project.)
-use Rattle.std.specs.Prelude.{ℕ, ◌-◌, ◌≤◌, ◌≡◌, Bool, ◌&&◌, ℤ, pos, negsuc, ◌≤ℤ◌, int_le, List, length, All, slice_get}
+-- Where points may lie, in 10^-12 degrees, and what a zone keeps. (Own choices of this project.)
+use Rattle.std.specs.Prelude.{ℕ, ◌-◌, ◌^◌, ◌≤◌, ◌≡◌, Bool, ◌&&◌, ℤ, pos, neg_ℤ}
+use Rattle.std.specs.Prelude.{List, length, All, slice_get}
 use Rattle.std.specs.List.{sum_by}
+use Rattle.ldp_quantity.specs.Between.{int_between, IsBetween}
+use Rattle.ldp_quantity.specs.Quantity.{degrees, IsLongitude, IsLatitude}
 use Rattle.ldp_zone.specs.declared.point.Point.{Point}
-
--- -180 to 360 degrees
-abbrev pub IsLongitude : ℤ → Type 0
-IsLongitude x = (negsuc 179_999_999_999_999 ≤ℤ x) × (x ≤ℤ pos 360_000_000_000_000)
-
--- -80 to 80 degrees
-abbrev pub IsLatitude : ℤ → Type 0
-IsLatitude y = (negsuc 79_999_999_999_999 ≤ℤ y) × (y ≤ℤ pos 80_000_000_000_000)
+use Rattle.ldp_zone.specs.declared.edge.Edge.{Edge}
 
 -- a point that a zone may have
 pub record IsNear (p : Point) : Type 0 where
@@ -19,19 +15,25 @@ pub record IsNear (p : Point) : Type 0 where
 -- the closed rectangle of longitude -180 to 360 and latitude -80 to 80 degrees
 abbrev pub is_in_area : Point → Bool
 is_in_area p =
-    (int_le (negsuc 179_999_999_999_999) p.x && int_le p.x (pos 360_000_000_000_000))
-    && (int_le (negsuc 79_999_999_999_999) p.y && int_le p.y (pos 80_000_000_000_000))
+    int_between (neg_ℤ (degrees 180)) (degrees 360) p.x
+    && int_between (neg_ℤ (degrees 80)) (degrees 80) p.y
+
+-- an edge that a zone may have
+pub record IsEdge (edge : Edge) : Type 0 where
+  pub start : IsNear edge.start
+  pub end : IsNear edge.end
 
 -- at most 10^20 in absolute value
 abbrev pub IsFar : ℤ → Type 0
-IsFar n = (negsuc 99_999_999_999_999_999_999 ≤ℤ n) × (n ≤ℤ pos 100_000_000_000_000_000_000)
+IsFar = IsBetween (neg_ℤ (pos (10 ^ 20))) (pos (10 ^ 20))
 
 -- a point that may be asked for
 pub record IsPlace (p : Point) : Type 0 where
   pub x : IsFar p.x
   pub y : IsFar p.y
 
--- what every ring of a zone keeps: its points are in range, there are at least four, and the last is the first
+-- what every ring of a zone keeps: its points are in range, there are at least four, and the last
+-- is the first
 pub record IsRing (ring : List Point) : Type 0 where
   pub near : All IsNear ring
   pub some : 4 ≤ length ring
@@ -40,3 +42,8 @@ pub record IsRing (ring : List Point) : Type 0 where
 -- the points of all rings, closing points too
 abbrev pub point_count : List (List Point) → ℕ
 point_count rings = sum_by length rings
+
+-- what every zone keeps
+pub record IsZone (rings : List (List Point)) : Type 0 where
+  pub each : All IsRing rings
+  pub few : point_count rings ≤ 10_000

@@ -1,42 +1,30 @@
--- The numbers of a point. (The x and y coordinates of a point of OGC 06-103r4, here longitude and latitude in degrees; the
--- ranges are own choices of this project.)
-use Rattle.std.specs.Prelude.{ℕ, Bool, true, false, ℤ, negsuc, int_le, Result, Ok, Err, if◌then◌else◌}
-use Rattle.ldp_decimal.specs.Reading.{decimal_of}
-use Rattle.ldp_decimal.specs.declared.fault.NumFault.{NumFault}
-use Rattle.ldp_decimal.specs.declared.fault.NumFault.TheVariants.{NotANumber, TooLarge}
+-- The numbers of a point: the x and y coordinates of OGC 06-103r4, here longitude and latitude in
+-- degrees, and a third that is dropped. (The faults are own choices of this project.)
+use Rattle.std.specs.Prelude.{ℕ, ℤ, Result, Ok, Err, is_some, if◌then◌else◌}
+use Rattle.ldp_decimal.specs.Reading.{decimal_value}
+use Rattle.ldp_quantity.specs.Quantity.{longitude_of, latitude_of}
+use Rattle.ldp_quantity.specs.declared.unfit.Unfit.{Unfit}
+use Rattle.ldp_quantity.specs.declared.unfit.Unfit.TheVariants as unfits
 use Rattle.ldp_tokens.specs.Tokens.{Token}
 use Rattle.ldp_zone.specs.declared.fault.ZoneFault.{ZoneFault}
 use Rattle.ldp_zone.specs.declared.fault.ZoneFault.TheVariants.{BadNumber, OutOfRange}
 
--- the value, if there is one, handed on; the first fault else
-infixl 10 ◌>>=◌
-abbrev pub ◌>>=◌ : {A B : Type 0} → Result A ZoneFault → (A → Result B ZoneFault) → Result B ZoneFault
-Ok x >>= f = f x
-Err fault >>= f = Err fault
+-- the fault of a number at a place
+abbrev pub fault_at : ℕ → Unfit → ZoneFault
+fault_at place unfits.NotANumber = BadNumber place
+fault_at place unfits.OutOfRange = OutOfRange place
 
-abbrev pub number_or_fault : ℕ → Result ℤ NumFault → Result ℤ ZoneFault
-number_or_fault place (Ok n) = Ok n
-number_or_fault place (Err NotANumber) = Err (BadNumber place)
-number_or_fault place (Err (TooLarge negative)) = Err (OutOfRange place)
+abbrev pub fit_or_fault : ℕ → Result ℤ Unfit → Result ℤ ZoneFault
+fit_or_fault place (Ok n) = Ok n
+fit_or_fault place (Err unfit) = Err (fault_at place unfit)
 
--- a number of degrees with 12 places, of at most so many units of 10^-12 degrees in absolute value
-unfoldable pub degrees : ℕ → Token → Result ℤ ZoneFault
-degrees limit token = number_or_fault token.place (decimal_of 12 limit token.bytes)
-
--- a longitude: -180 to 360 degrees
 unfoldable pub longitude : Token → Result ℤ ZoneFault
-longitude token = degrees 360_000_000_000_000 token
-    >>= λ x. if int_le (negsuc 179_999_999_999_999) x then Ok x else Err (OutOfRange token.place)
+longitude token = fit_or_fault token.place (longitude_of token.bytes)
 
--- a latitude: -80 to 80 degrees
-abbrev pub latitude : Token → Result ℤ ZoneFault
-latitude token = degrees 80_000_000_000_000 token
-
--- whether a text is a number of any size
-abbrev pub is_number : Result ℤ NumFault → Bool
-is_number (Err NotANumber) = false
-is_number _ = true
+unfoldable pub latitude : Token → Result ℤ ZoneFault
+latitude token = fit_or_fault token.place (latitude_of token.bytes)
 
 -- a height: a number of any size, which is dropped
 unfoldable pub height : Token → Result (Unit {0}) ZoneFault
-height token = if is_number (decimal_of 0 0 token.bytes) then Ok tt else Err (BadNumber token.place)
+height token =
+    if is_some (decimal_value 0 token.bytes) then Ok tt else Err (BadNumber token.place)

@@ -1,20 +1,22 @@
--- The grammar of a zone's text, over the list of its tokens: the polygon and multipolygon texts of OGC 06-103r4 ("Well-known
--- Text Representation for Geometry"). A phrase takes the tokens that are left; it hands on what it has read and the tokens
--- behind it. The first token that does not fit is the fault, or the end of the text, which has `end` bytes.
--- The words with Z in one, a third number at any point, no EMPTY in place of a ring, the limit of points and the faults are own
--- choices of this project.
-use Rattle.std.specs.Prelude.{ℕ, zero, suc, ◌+◌, ◌-◌, Bool, true, false, ◌||◌, nat_lt, nat_le, ℤ, List, [], ◌∷◌, ◌++◌, length, slice_get, Option, Some, Result, Ok, Err, if◌then◌else◌, codes}
-use Rattle.std.specs.Str.{str_eq_ignore_ascii_case}
+-- The grammar of a zone's text, over the list of its tokens: the polygon and multipolygon texts of
+-- OGC 06-103r4 ("Well-known Text Representation for Geometry"). A phrase takes the tokens that are
+-- left; it hands on what it has read and the tokens behind it. The first token that does not fit is
+-- the fault, or the end of the text, which has `end` bytes.
+-- The words with Z in one, a third number at any point, no EMPTY in place of a ring, the limit of
+-- points and the faults are own choices of this project.
+use Rattle.std.specs.Prelude.{ℕ, zero, suc, ◌+◌, ◌-◌, Bool, false, ◌||◌, nat_lt, nat_le, ℤ}
+use Rattle.std.specs.Prelude.{List, [], ◌∷◌, ◌++◌, length, slice_get, Option, Some, Result, Ok, Err}
+use Rattle.std.specs.Prelude.{if◌then◌else◌, codes}
 use Rattle.ldp_tokens.specs.Tokens.{Token, tokens_of}
-use Rattle.ldp_zone.specs.Sort.{signs, sort_of}
-use Rattle.ldp_zone.specs.Coordinates.{◌>>=◌, longitude, latitude, height}
+use Rattle.ldp_zone.specs.Signs.{signs, is_word, is_open, is_close, is_comma, is_run}
+use Rattle.ldp_quantity.specs.Results.{◌>>=◌}
+use Rattle.ldp_zone.specs.Coordinates.{longitude, latitude, height}
 use Rattle.ldp_zone.specs.Inside.{same_point}
 use Rattle.ldp_zone.specs.Area.{point_count}
 use Rattle.ldp_zone.specs.declared.point.Point.{Point}
-use Rattle.ldp_zone.specs.declared.sort.Sort.{Sort}
-use Rattle.ldp_zone.specs.declared.sort.Sort.TheVariants.{Open, Close, Comma, Run}
 use Rattle.ldp_zone.specs.declared.fault.ZoneFault.{ZoneFault}
-use Rattle.ldp_zone.specs.declared.fault.ZoneFault.TheVariants.{NotAPolygon, Measured, OpenRing, ShortRing, TooManyPoints, Trailing}
+use Rattle.ldp_zone.specs.declared.fault.ZoneFault.TheVariants.{NotAPolygon, Measured, OpenRing}
+use Rattle.ldp_zone.specs.declared.fault.ZoneFault.TheVariants.{ShortRing, TooManyPoints, Trailing}
 
 -- what a phrase has read, and the tokens behind it
 pub record Read (A : Type 0) : Type 0 where
@@ -30,44 +32,30 @@ abbrev pub unfit : {A : Type 0} → ℕ → List Token → Result A ZoneFault
 unfit end [] = Err (NotAPolygon end)
 unfit end (token ∷ rest) = Err (NotAPolygon token.place)
 
--- a word in any case
-abbrev pub is_word : Token → List ℕ → Bool
-is_word token word = str_eq_ignore_ascii_case token.bytes word
-
-abbrev pub same_sort : Sort → Sort → Bool
-same_sort Open Open = true
-same_sort Close Close = true
-same_sort Comma Comma = true
-same_sort Run Run = true
-same_sort _ _ = false
-
--- which sign a token is, or that it is a run of other bytes
-infix 40 ◌is◌
-abbrev pub ◌is◌ : Token → Sort → Bool
-token is sort = same_sort (sort_of token.bytes) sort
-
 -- Lists.
 
--- behind an item of a list: a comma and more of the list, or the parenthesis that closes it
-abbrev pub behind_item : {A : Type 0} → ℕ → Phrase A → A → Phrase A
-behind_item end more value [] = unfit end []
-behind_item end more value (token ∷ rest) =
-    if token is Comma then more rest
-    else if token is Close then Ok record { value = value; rest = rest }
+-- behind an entry of a list: a comma and more of the list, or the parenthesis that closes it
+abbrev pub behind_entry : {A : Type 0} → ℕ → Phrase A → A → Phrase A
+behind_entry end more value [] = unfit end []
+behind_entry end more value (token ∷ rest) =
+    if is_comma token then more rest
+    else if is_close token then Ok record { value = value; rest = rest }
     else unfit end (token ∷ rest)
 
--- items with commas between them and the parenthesis that closes the list. Each item adds to what was read before it. There
--- are at most `most` items: a list of tokens holds no more items than tokens.
-abbrev pub items : {A : Type 0} → ℕ → (A → Phrase A) → ℕ → A → Phrase A
-items end item zero before tokens = unfit end tokens
-items end item (suc most) before tokens =
-    item before tokens >>= λ one. behind_item end (items end item most one.value) one.value one.rest
+-- entries with commas between them and the parenthesis that closes the list. Each entry adds to
+-- what was read before it. There are at most `most` entries: a list of tokens holds no more entries
+-- than tokens.
+abbrev pub entries : {A : Type 0} → ℕ → (A → Phrase A) → ℕ → A → Phrase A
+entries end entry zero before tokens = unfit end tokens
+entries end entry (suc most) before tokens =
+    entry before tokens
+    >>= λ one. behind_entry end (entries end entry most one.value) one.value one.rest
 
--- items in parentheses
+-- entries in parentheses
 abbrev pub list_of : {A : Type 0} → ℕ → (A → Phrase A) → A → Phrase A
-list_of end item before [] = unfit end []
-list_of end item before (token ∷ rest) =
-    if token is Open then items end item (length rest) before rest
+list_of end entry before [] = unfit end []
+list_of end entry before (token ∷ rest) =
+    if is_open token then entries end entry (length rest) before rest
     else unfit end (token ∷ rest)
 
 -- Points.
@@ -76,19 +64,23 @@ list_of end item before (token ∷ rest) =
 abbrev pub number : {A : Type 0} → ℕ → (Token → Result A ZoneFault) → Phrase A
 number end read [] = unfit end []
 number end read (token ∷ rest) =
-    if token is Run then (read token >>= λ n. Ok record { value = n; rest = rest })
+    if is_run token then (read token >>= λ n. Ok record { value = n; rest = rest })
     else unfit end (token ∷ rest)
 
--- the first number of a point that stands behind so many others in the text, of which there are at most 10,000
+-- the first number of a point that stands behind so many others in the text, of which there are at
+-- most 10,000
 abbrev pub longitude_behind : ℕ → Token → Result ℤ ZoneFault
-longitude_behind points token = if nat_le 10_000 points then Err TooManyPoints else longitude token
+longitude_behind points token =
+    if nat_le 10_000 points then Err TooManyPoints else longitude token
 
 -- an optional third number, which is dropped: the tokens behind it
 abbrev pub third : List Token → Result (List Token) ZoneFault
 third [] = Ok []
-third (token ∷ rest) = if token is Run then (height token >>= λ dropped. Ok rest) else Ok (token ∷ rest)
+third (token ∷ rest) =
+    if is_run token then (height token >>= λ dropped. Ok rest) else Ok (token ∷ rest)
 
--- a point: two numbers, or three; it stands behind the points of this ring and those of the rings before it
+-- a point: two numbers, or three; it stands behind the points of this ring and those of the rings
+-- before it
 abbrev pub point : ℕ → List (List Point) → List Point → Phrase (List Point)
 point end rings before tokens = do
   x ← number end (longitude_behind (point_count rings + length before)) tokens
@@ -106,8 +98,8 @@ same_ends _ _ = false
 unfoldable pub is_closed : List Point → Bool
 is_closed ring = same_ends (slice_get ring 0) (slice_get ring (length ring - 1))
 
--- rings, and one more that has at least four points, of which the last is the first; rings are numbered from 0 through the
--- whole text
+-- rings, and one more that has at least four points, of which the last is the first; rings are
+-- numbered from 0 through the whole text
 unfoldable pub with_ring : List (List Point) → List Point → Result (List (List Point)) ZoneFault
 with_ring rings ring =
     if nat_lt (length ring) 4 then Err (ShortRing (length rings))
@@ -165,4 +157,6 @@ nothing_behind value (token ∷ rest) = Err (Trailing token.place)
 
 -- the rings of a text, or its first fault
 unfoldable pub zone_of : List ℕ → Result (List (List Point)) ZoneFault
-zone_of text = geometry (length text) (tokens_of signs text) >>= λ read. nothing_behind read.value read.rest
+zone_of text =
+    geometry (length text) (tokens_of signs text)
+    >>= λ read. nothing_behind read.value read.rest

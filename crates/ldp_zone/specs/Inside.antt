@@ -1,6 +1,8 @@
--- The even-odd rule over all rings of a zone, on whole numbers: nothing is divided or rounded. A point on an edge is inside.
--- (Own choice of this project.)
-use Rattle.std.specs.Prelude.{◌%◌, ◌==◌, Bool, true, false, ◌&&◌, ◌||◌, ℤ, ◌-ℤ◌, ◌*ℤ◌, int_lt, int_le, List, [], ◌∷◌, count_by, if◌then◌else◌}
+-- The even-odd rule over all rings of a zone, on whole numbers: nothing is divided or rounded. A
+-- point on an edge is inside. (Own choice of this project.)
+use Rattle.std.specs.Prelude.{◌%◌, ◌==◌, Bool, true, false, ◌&&◌, ◌||◌}
+use Rattle.std.specs.Prelude.{ℤ, ◌-ℤ◌, ◌*ℤ◌, int_lt, int_le}
+use Rattle.std.specs.Prelude.{List, [], ◌∷◌, count_by, if◌then◌else◌}
 use Rattle.std.specs.List.{list_any, flat_map}
 use Rattle.std.specs.Ordering.{int_eq}
 use Rattle.ldp_zone.specs.declared.point.Point.{Point}
@@ -23,8 +25,8 @@ ring_edges (p ∷ ps) = edges_from p ps
 abbrev pub edges : List (List Point) → List Edge
 edges rings = flat_map ring_edges rings
 
--- The line through an edge meets the height of a point so far east of the edge's start, times the edge's rise; and
--- the point itself lies so far east of the start, times the rise.
+-- The line through an edge meets the height of a point so far east of the edge's start, times the
+-- edge's rise; and the point itself lies so far east of the start, times the rise.
 unfoldable pub edge_east : Point → Edge → ℤ
 edge_east at edge = (at.y -ℤ edge.start.y) *ℤ (edge.end.x -ℤ edge.start.x)
 
@@ -59,7 +61,9 @@ in_box at edge = between edge.start.x edge.end.x at.x && between edge.start.y ed
 
 -- the point lies on the line through the edge
 unfoldable pub on_line : Point → Edge → Bool
-on_line at edge = int_le (edge_east at edge) (point_east at edge) && int_le (point_east at edge) (edge_east at edge)
+on_line at edge =
+    int_le (edge_east at edge) (point_east at edge)
+    && int_le (point_east at edge) (edge_east at edge)
 
 unfoldable pub on_edge : Point → Edge → Bool
 on_edge at edge = in_box at edge && on_line at edge

@@ -1,7 +1,7 @@
 pub mod Inside
 pub mod Area
 pub mod Products
-pub mod Sort
+pub mod Signs
 pub mod Coordinates
 pub mod Grammar
 pub mod Steps

@@ -1,7 +1,8 @@
 -- What the private functions of the reader speak of.
 use Rattle.std.specs.Prelude.{ℕ, ◌+◌, ◌*◌, ◌≤◌, ◌≡◌, length, All, Result, Ok, Err}
 use Rattle.ldp_zone.specs.Steps.{Progress, Step}
-use Rattle.ldp_zone.specs.Area.{IsNear, IsLongitude, point_count}
+use Rattle.ldp_quantity.specs.Quantity.{IsLongitude}
+use Rattle.ldp_zone.specs.Area.{IsNear, IsRing, point_count}
 use Rattle.ldp_zone.specs.declared.spot.Spot.{Spot}
 use Rattle.ldp_zone.specs.declared.spot.Spot.TheVariants as spots
 use Rattle.ldp_zone.specs.declared.fault.ZoneFault.{ZoneFault}
@@ -24,6 +25,7 @@ pending _ = 0
 
 -- what the reader keeps
 pub record IsProgress (p : Progress) : Type 0 where
+  pub each : All IsRing p.rings
   pub some : 4 * length p.rings ≤ point_count p.rings
   pub few : point_count p.rings + length p.ring + pending p.spot ≤ p.count
   pub most : p.count ≤ 10_000

@@ -1,20 +1,22 @@
--- What the reader does with each token: what may stand at each spot of the text, and where the reading stands after it. This is
--- no definition of the text; it is proved to be the grammar.
-use Rattle.std.specs.Prelude.{ℕ, ◌+◌, Bool, true, false, ◌||◌, ℤ, pos, List, [], ◌∷◌, ◌++◌, Result, Ok, Err, if◌then◌else◌, codes}
+-- What the reader does with each token, of which its private functions speak: what may stand at
+-- each spot of the text, and where the reading stands after it. This defines no text; it is proved
+-- to be the grammar.
+use Rattle.std.specs.Prelude.{ℕ, ◌+◌, Bool, true, false, ◌||◌, ℤ, pos, List, [], ◌∷◌, ◌++◌}
+use Rattle.std.specs.Prelude.{Result, Ok, Err, if◌then◌else◌, codes}
 use Rattle.ldp_tokens.specs.Tokens.{Token}
-use Rattle.ldp_zone.specs.Sort.{sort_of}
-use Rattle.ldp_zone.specs.Coordinates.{◌>>=◌, latitude, height}
-use Rattle.ldp_zone.specs.Grammar.{is_word, longitude_behind, with_ring}
+use Rattle.ldp_zone.specs.Signs.{is_word, is_open, is_close, is_comma, is_run}
+use Rattle.ldp_quantity.specs.Results.{◌>>=◌}
+use Rattle.ldp_zone.specs.Coordinates.{latitude, height}
+use Rattle.ldp_zone.specs.Grammar.{longitude_behind, with_ring}
 use Rattle.ldp_zone.specs.declared.point.Point.{Point}
-use Rattle.ldp_zone.specs.declared.sort.Sort.{Sort}
-use Rattle.ldp_zone.specs.declared.sort.Sort.TheVariants.{Open, Close, Comma, Run}
 use Rattle.ldp_zone.specs.declared.spot.Spot.{Spot}
 use Rattle.ldp_zone.specs.declared.spot.Spot.TheVariants as spots
 use Rattle.ldp_zone.specs.declared.fault.ZoneFault.{ZoneFault}
 use Rattle.ldp_zone.specs.declared.fault.ZoneFault.TheVariants.{NotAPolygon, Measured, Trailing}
 
--- what was read so far: what may stand next, whether the geometry is a multipolygon, the whole rings, the points of the
--- ring that is open, the first number of a point whose second is still to come, and how many points were begun
+-- what was read so far: what may stand next, whether the geometry is a multipolygon, the whole
+-- rings, the points of the ring that is open, the first number of a point whose second is still to
+-- come, and how many points were begun
 pub record Progress : Type 0 where
   pub spot : Spot
   pub multi : Bool
@@ -34,22 +36,21 @@ begin = record { spot = spots.Geometry; multi = false; rings = []; ring = []; x 
 abbrev pub unfit : Token → Step
 unfit token = Err (NotAPolygon token.place)
 
+abbrev pub behind_word : Spot → Bool → Progress → Step
+behind_word spot multi p = Ok record p { spot = spot; multi = multi }
+
 -- the word of the geometry
 unfoldable pub geometry : Progress → Token → Step
 geometry p token =
-    if is_word token (codes "POLYGON") then Ok record p { spot = spots.Dimension; multi = false }
-    else if is_word token (codes "MULTIPOLYGON") then Ok record p { spot = spots.Dimension; multi = true }
-    else if is_word token (codes "POLYGONZ") then Ok record p { spot = spots.Body; multi = false }
-    else if is_word token (codes "MULTIPOLYGONZ") then Ok record p { spot = spots.Body; multi = true }
+    if is_word token (codes "POLYGON") then behind_word spots.Dimension false p
+    else if is_word token (codes "MULTIPOLYGON") then behind_word spots.Dimension true p
+    else if is_word token (codes "POLYGONZ") then behind_word spots.Body false p
+    else if is_word token (codes "MULTIPOLYGONZ") then behind_word spots.Body true p
     else unfit token
-
-abbrev pub opened_by : Sort → Spot → Progress → Token → Step
-opened_by Open next p token = Ok record p { spot = next }
-opened_by _ next p token = unfit token
 
 -- a `(`
 unfoldable pub opened : Spot → Progress → Token → Step
-opened next p token = opened_by (sort_of token.bytes) next p token
+opened next p token = if is_open token then Ok record p { spot = next } else unfit token
 
 -- what stands behind the `(` of a geometry's text
 abbrev pub within_body : Bool → Spot
@@ -76,72 +77,60 @@ polygon p token =
 
 -- the first number of a point
 unfoldable pub begun : Progress → Token → Step
-begun p token = longitude_behind p.count token >>= λ x. Ok record p { spot = spots.Second; x = x; count = p.count + 1 }
-
-abbrev pub first_by : Sort → Progress → Token → Step
-first_by Run p token = begun p token
-first_by _ p token = unfit token
+begun p token =
+    longitude_behind p.count token
+    >>= λ x. Ok record p { spot = spots.Second; x = x; count = p.count + 1 }
 
 unfoldable pub first : Progress → Token → Step
-first p token = first_by (sort_of token.bytes) p token
+first p token = if is_run token then begun p token else unfit token
 
 -- the second number of a point
 unfoldable pub ended : Progress → Token → Step
-ended p token = latitude token >>= λ y. Ok record p { spot = spots.Third; ring = p.ring ++ record { x = p.x; y = y } ∷ [] }
-
-abbrev pub second_by : Sort → Progress → Token → Step
-second_by Run p token = ended p token
-second_by _ p token = unfit token
+ended p token =
+    latitude token
+    >>= λ y. Ok record p { spot = spots.Third; ring = p.ring ++ record { x = p.x; y = y } ∷ [] }
 
 unfoldable pub second : Progress → Token → Step
-second p token = second_by (sort_of token.bytes) p token
+second p token = if is_run token then ended p token else unfit token
 
 -- the `)` of a ring
 unfoldable pub ring_whole : Progress → Step
-ring_whole p = with_ring p.rings p.ring >>= λ rings. Ok record p { spot = spots.RingEnd; rings = rings; ring = [] }
-
-abbrev pub point_end_by : Sort → Progress → Token → Step
-point_end_by Comma p token = Ok record p { spot = spots.First }
-point_end_by Close p token = ring_whole p
-point_end_by _ p token = unfit token
+ring_whole p =
+    with_ring p.rings p.ring
+    >>= λ rings. Ok record p { spot = spots.RingEnd; rings = rings; ring = [] }
 
 -- behind a point
 unfoldable pub point_end : Progress → Token → Step
-point_end p token = point_end_by (sort_of token.bytes) p token
+point_end p token =
+    if is_comma token then Ok record p { spot = spots.First }
+    else if is_close token then ring_whole p
+    else unfit token
 
 -- the third number of a point, which is dropped
 unfoldable pub dropped : Progress → Token → Step
 dropped p token = height token >>= λ read. Ok record p { spot = spots.PointEnd }
 
-abbrev pub third_by : Sort → Progress → Token → Step
-third_by Run p token = dropped p token
-third_by _ p token = point_end p token
-
 -- a third number, or what stands behind a point
 unfoldable pub third : Progress → Token → Step
-third p token = third_by (sort_of token.bytes) p token
+third p token = if is_run token then dropped p token else point_end p token
 
 -- what stands behind the `)` of a polygon's text
 abbrev pub behind_polygon : Bool → Spot
 behind_polygon multi = if multi then spots.PolygonEnd else spots.End
 
-abbrev pub ring_end_by : Sort → Progress → Token → Step
-ring_end_by Comma p token = Ok record p { spot = spots.Ring }
-ring_end_by Close p token = Ok record p { spot = behind_polygon p.multi }
-ring_end_by _ p token = unfit token
-
 -- behind a ring
 unfoldable pub ring_end : Progress → Token → Step
-ring_end p token = ring_end_by (sort_of token.bytes) p token
-
-abbrev pub polygon_end_by : Sort → Progress → Token → Step
-polygon_end_by Comma p token = Ok record p { spot = spots.Polygon }
-polygon_end_by Close p token = Ok record p { spot = spots.End }
-polygon_end_by _ p token = unfit token
+ring_end p token =
+    if is_comma token then Ok record p { spot = spots.Ring }
+    else if is_close token then Ok record p { spot = behind_polygon p.multi }
+    else unfit token
 
 -- behind a polygon in a multipolygon
 unfoldable pub polygon_end : Progress → Token → Step
-polygon_end p token = polygon_end_by (sort_of token.bytes) p token
+polygon_end p token =
+    if is_comma token then Ok record p { spot = spots.Polygon }
+    else if is_close token then Ok record p { spot = spots.End }
+    else unfit token
 
 abbrev pub step_at : Spot → Progress → Token → Step
 step_at spots.Geometry p token = geometry p token
@@ -168,8 +157,3 @@ is_end _ = false
 -- at the end of a text of so many bytes
 unfoldable pub finished : ℕ → Progress → Result (List (List Point)) ZoneFault
 finished end p = if is_end p.spot then Ok p.rings else Err (NotAPolygon end)
-
--- the rings of the tokens that are left, in a text of so many bytes
-unfoldable pub rings_from : ℕ → Progress → List Token → Result (List (List Point)) ZoneFault
-rings_from end p [] = finished end p
-rings_from end p (token ∷ tokens) = step p token >>= λ next. rings_from end next tokens

@@ -1,12 +1,13 @@
-ghost use Rattle.std.specs.Prelude.{◌≡◌};
-ghost use Rattle.ldp_zone.specs.Inside.{edge_east, point_east, spans, between, meets_east, crosses, in_box, on_line, on_edge};
-ghost use Rattle.ldp_zone.specs.Area.{IsNear, IsPlace};
+ghost use Rattle.std.specs.Prelude.{◌≡◌, ◌≤◌, ◌*◌, ◌^◌, unsigned_abs};
+ghost use Rattle.ldp_zone.specs.Inside.{edge_east, point_east, spans, between, meets_east, crosses};
+ghost use Rattle.ldp_zone.specs.Inside.{in_box, on_line, on_edge};
+ghost use Rattle.ldp_zone.specs.Area.{IsEdge, IsPlace};
 
 use crate::point::Point;
 use crate::product::product;
 
 /// An edge of a ring, from one of its points to the next.
-#[derive(Clone, Copy)]
+#[derive(Clone, Copy, Debug, PartialEq, Eq)]
 pub struct Edge {
     pub start: Point,
     pub end: Point,
@@ -15,27 +16,28 @@ pub struct Edge {
 impl Edge {
     /// How far east of its start the edge meets the height of a point, times the edge's rise.
     #[tactic(auto, unfolding(crate::specs::Inside::edge_east))]
-    fn edge_east(&self, at: &Point) -> i128
-        requires start { IsNear self.now.start }
-        requires end { IsNear self.now.end }
+    pub fn edge_east(&self, at: &Point) -> i128
+        requires edge { IsEdge self.now }
         requires at { IsPlace at.now }
-        ensures { result ≡ edge_east at.now self.now }
+        ensures value { result ≡ edge_east at.now self.now }
+        ensures small { unsigned_abs result ≤ 16 * 10 ^ 34 }
     {
         product(at.y - self.start.y, self.end.x - self.start.x)
     }
 
     /// How far east of the edge's start a point lies, times the edge's rise.
     #[tactic(auto, unfolding(crate::specs::Inside::point_east))]
-    fn point_east(&self, at: &Point) -> i128
-        requires start { IsNear self.now.start }
-        requires end { IsNear self.now.end }
+    pub fn point_east(&self, at: &Point) -> i128
+        requires edge { IsEdge self.now }
         requires at { IsPlace at.now }
-        ensures { result ≡ point_east at.now self.now }
+        ensures value { result ≡ point_east at.now self.now }
+        ensures small { unsigned_abs result ≤ 16 * 10 ^ 34 }
     {
         product(at.x - self.start.x, self.end.y - self.start.y)
     }
 
-    fn spans(&self, at: &Point) -> bool
+    /// Whether exactly one end of the edge is above the height of a point.
+    pub fn spans(&self, at: &Point) -> bool
         ensures { result ≡ spans at.now self.now }
     {
         (at.y < self.start.y) != (at.y < self.end.y)
@@ -43,8 +45,7 @@ impl Edge {
 
     #[tactic(auto, unfolding(crate::specs::Inside::meets_east))]
     fn meets_east(&self, at: &Point) -> bool
-        requires start { IsNear self.now.start }
-        requires end { IsNear self.now.end }
+        requires edge { IsEdge self.now }
         requires at { IsPlace at.now }
         ensures { result ≡ meets_east at.now self.now }
     {
@@ -60,8 +61,7 @@ impl Edge {
     /// Whether the edge crosses the ray from a point to the east.
     #[tactic(auto, unfolding(crate::specs::Inside::crosses))]
     pub fn crosses(&self, at: &Point) -> bool
-        requires start { IsNear self.now.start }
-        requires end { IsNear self.now.end }
+        requires edge { IsEdge self.now }
         requires at { IsPlace at.now }
         ensures { result ≡ crosses at.now self.now }
     {
@@ -89,8 +89,7 @@ impl Edge {
 
     #[tactic(auto, unfolding(crate::specs::Inside::on_line))]
     fn on_line(&self, at: &Point) -> bool
-        requires start { IsNear self.now.start }
-        requires end { IsNear self.now.end }
+        requires edge { IsEdge self.now }
         requires at { IsPlace at.now }
         ensures { result ≡ on_line at.now self.now }
     {
@@ -102,8 +101,7 @@ impl Edge {
     /// Whether a point lies on the edge.
     #[tactic(auto, unfolding(crate::specs::Inside::on_edge))]
     pub fn holds(&self, at: &Point) -> bool
-        requires start { IsNear self.now.start }
-        requires end { IsNear self.now.end }
+        requires edge { IsEdge self.now }
         requires at { IsPlace at.now }
         ensures { result ≡ on_edge at.now self.now }
     {

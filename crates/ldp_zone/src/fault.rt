@@ -3,7 +3,8 @@ ghost use Rattle.ldp_zone.specs.declared.fault.ZoneFault.TheVariants.{Memory};
 
 use std::alloc::{AllocError, AllocFailed};
 
-/// The first fault of a text. A place counts the bytes before it; a ring counts the rings before it in the whole text.
+/// The first fault of a text. A place counts the bytes before it; a ring counts the rings before it
+/// in the whole text.
 #[derive(Clone, Copy, Debug, PartialEq, Eq)]
 pub enum ZoneFault {
     NotAPolygon(usize),

@@ -1,4 +1,4 @@
-ghost use Rattle.std.specs.Prelude.{◌≡◌, ◌*ℤ◌};
+ghost use Rattle.std.specs.Prelude.{◌≡◌, ◌≤◌, ◌*◌, ◌^◌, ◌*ℤ◌, unsigned_abs};
 ghost use Rattle.ldp_zone.specs.Products.{IsWide, IsNarrow};
 
 /// A product that fits 128 bits.
@@ -6,7 +6,8 @@ ghost use Rattle.ldp_zone.specs.Products.{IsWide, IsNarrow};
 pub fn product(a: i128, b: i128) -> i128
     requires wide { IsWide a }
     requires narrow { IsNarrow b }
-    ensures { result ≡ a *ℤ b }
+    ensures value { result ≡ a *ℤ b }
+    ensures small { unsigned_abs result ≤ 16 * 10 ^ 34 }
 {
     a * b
 }

@@ -7,8 +7,9 @@ use crate::zone::Zone;
 use ldp_tokens::Tokens;
 use std::alloc::Global;
 
-/// Reads the text of a polygon or multipolygon (OGC 06-103r4) over longitude and latitude in degrees.
-#[tactic(auto, using(crate::proofs::Agreement::reads_zone), unfolding(crate::specs::Steps::rings_from))]
+/// Reads the text of a polygon or multipolygon (OGC 06-103r4) over longitude and latitude in
+/// degrees.
+#[tactic(auto, using(crate::proofs::Agreement::reads_zone), unfolding(crate::proofs::TokensLeft::rings_from))]
 pub fn read_zone(alloc: Global, text: &[u8]) -> Result<Zone, ZoneFault>
     ensures { result ≢ Err ZoneFault.Memory → result ≡ zone_of text.now }
 {

@@ -1,32 +1,21 @@
-ghost use Rattle.std.specs.Prelude.{◌≡◌, ◌≤◌, IfOk, unsigned_abs};
-ghost use Rattle.std.specs.Str.{str_eq_ignore_ascii_case};
-ghost use Rattle.ldp_decimal.specs.Reading.{decimal_of};
-ghost use Rattle.ldp_zone.specs.Area.{IsLongitude, IsLatitude};
+ghost use Rattle.std.specs.Prelude.{◌≡◌};
 ghost use Rattle.ldp_tokens.specs.Seen.{seen};
 ghost use Rattle.ldp_zone.specs.Seen.{Leaves, pending};
-ghost use Rattle.ldp_zone.specs.Coordinates.{degrees, longitude, latitude, is_number};
-ghost use Rattle.ldp_zone.specs.Grammar.{is_closed};
-ghost use Rattle.ldp_zone.specs.Steps.{begin, geometry, opened, within_body, body, dimension, polygon, begun, first, ended, second, ring_whole, point_end, dropped, third, behind_polygon, ring_end, polygon_end, step, finished};
+ghost use Rattle.ldp_zone.specs.Steps.{begin, geometry, opened, within_body, body, dimension};
+ghost use Rattle.ldp_zone.specs.Steps.{polygon, begun, first, ended, second, dropped, third};
+ghost use Rattle.ldp_zone.specs.Steps.{ring_whole, point_end, behind_polygon, ring_end};
+ghost use Rattle.ldp_zone.specs.Steps.{polygon_end, step, finished};
 
+use crate::coordinates::{is_number, latitude, longitude};
 use crate::fault::ZoneFault;
 use crate::point::Point;
-use crate::ring::Ring;
-use crate::sort::{Sort, sort_of};
+use crate::ring::{Ring, is_closed};
+use crate::signs::{is_close, is_comma, is_open, is_run, is_word};
 use crate::spot::Spot;
 use crate::zone::Zone;
-use ldp_decimal::{NumFault, read_decimal};
 use ldp_tokens::Token;
 use std::alloc::Global;
 use std::marker::Model;
-
-/// The greatest longitude: 360 degrees.
-const FULL_TURN: u64 = 360_000_000_000_000;
-
-/// The least longitude: -180 degrees.
-const WESTMOST: i128 = -180_000_000_000_000;
-
-/// The greatest latitude: 80 degrees.
-const NORTHMOST: u64 = 80_000_000_000_000;
 
 /// The most points of a zone.
 const MOST_POINTS: u32 = 10_000;
@@ -150,13 +139,11 @@ impl Reader {
         requires { pending next ≡ 0 }
         ensures { Leaves result self.new (opened next self.old (seen token.now)) }
     {
-        match sort_of(token.bytes) {
-            Sort::Open => {
-                self.spot = next;
-                Ok(())
-            }
-            _ => Err(ZoneFault::NotAPolygon(token.place)),
+        if !is_open(token) {
+            return Err(ZoneFault::NotAPolygon(token.place));
         }
+        self.spot = next;
+        Ok(())
     }
 
     /// The text of the geometry.
@@ -209,10 +196,10 @@ impl Reader {
         requires { pending self.old.spot ≡ 0 }
         ensures { Leaves result self.new (first self.old (seen token.now)) }
     {
-        match sort_of(token.bytes) {
-            Sort::Run => self.begun(token),
-            _ => Err(ZoneFault::NotAPolygon(token.place)),
+        if !is_run(token) {
+            return Err(ZoneFault::NotAPolygon(token.place));
         }
+        self.begun(token)
     }
 
     #[tactic(auto, unfolding(crate::specs::Steps::begun))]
@@ -236,10 +223,10 @@ impl Reader {
         requires { pending self.old.spot ≡ 1 }
         ensures { Leaves result self.new (second self.old (seen token.now)) }
     {
-        match sort_of(token.bytes) {
-            Sort::Run => self.ended(token),
-            _ => Err(ZoneFault::NotAPolygon(token.place)),
+        if !is_run(token) {
+            return Err(ZoneFault::NotAPolygon(token.place));
         }
+        self.ended(token)
     }
 
     #[tactic(auto, unfolding(crate::specs::Steps::ended))]
@@ -260,10 +247,10 @@ impl Reader {
         requires { pending self.old.spot ≡ 0 }
         ensures { Leaves result self.new (third self.old (seen token.now)) }
     {
-        match sort_of(token.bytes) {
-            Sort::Run => self.height(token),
-            _ => self.point_end(token),
+        if is_run(token) {
+            return self.height(token);
         }
+        self.point_end(token)
     }
 
     #[tactic(auto, unfolding(crate::specs::Steps::dropped, crate::specs::Coordinates::height))]
@@ -283,18 +270,18 @@ impl Reader {
         requires { pending self.old.spot ≡ 0 }
         ensures { Leaves result self.new (point_end self.old (seen token.now)) }
     {
-        match sort_of(token.bytes) {
-            Sort::Comma => {
-                self.spot = Spot::First;
-                Ok(())
-            }
-            Sort::Close => self.ring_whole(),
-            _ => Err(ZoneFault::NotAPolygon(token.place)),
+        if is_comma(token) {
+            self.spot = Spot::First;
+            return Ok(());
         }
+        if is_close(token) {
+            return self.ring_whole();
+        }
+        Err(ZoneFault::NotAPolygon(token.place))
     }
 
     /// The `)` of a ring.
-    #[tactic(auto, using(crate::proofs::Rings::closed_ends), unfolding(crate::specs::Steps::ring_whole, crate::specs::Grammar::with_ring))]
+    #[tactic(auto, using(crate::proofs::Rings::closing), unfolding(crate::specs::Steps::ring_whole, crate::specs::Grammar::with_ring))]
     fn ring_whole(&mut self) -> Result<(), ZoneFault>
         requires { pending self.old.spot ≡ 0 }
         ensures { Leaves result self.new (ring_whole self.old) }
@@ -317,21 +304,18 @@ impl Reader {
     fn ring_end(&mut self, token: &Token<'_>) -> Result<(), ZoneFault>
         ensures { Leaves result self.new (ring_end self.old (seen token.now)) }
     {
-        match sort_of(token.bytes) {
-            Sort::Comma => {
-                self.spot = Spot::Ring;
-                Ok(())
-            }
-            Sort::Close => {
-                self.spot = if self.multi {
-                    Spot::PolygonEnd
-                } else {
-                    Spot::End
-                };
-                Ok(())
-            }
-            _ => Err(ZoneFault::NotAPolygon(token.place)),
+        if is_comma(token) {
+            self.spot = Spot::Ring;
+        } else if is_close(token) {
+            self.spot = if self.multi {
+                Spot::PolygonEnd
+            } else {
+                Spot::End
+            };
+        } else {
+            return Err(ZoneFault::NotAPolygon(token.place));
         }
+        Ok(())
     }
 
     /// Behind a polygon in a multipolygon.
@@ -339,75 +323,13 @@ impl Reader {
     fn polygon_end(&mut self, token: &Token<'_>) -> Result<(), ZoneFault>
         ensures { Leaves result self.new (polygon_end self.old (seen token.now)) }
     {
-        match sort_of(token.bytes) {
-            Sort::Comma => {
-                self.spot = Spot::Polygon;
-                Ok(())
-            }
-            Sort::Close => {
-                self.spot = Spot::End;
-                Ok(())
-            }
-            _ => Err(ZoneFault::NotAPolygon(token.place)),
+        if is_comma(token) {
+            self.spot = Spot::Polygon;
+        } else if is_close(token) {
+            self.spot = Spot::End;
+        } else {
+            return Err(ZoneFault::NotAPolygon(token.place));
         }
-    }
-}
-
-/// Whether a token is a word, in any case.
-fn is_word(token: &Token<'_>, word: &[u8]) -> bool
-    ensures { result ≡ str_eq_ignore_ascii_case token.now.bytes.now word.now }
-{
-    token.bytes.eq_ignore_ascii_case(word)
-}
-
-#[tactic(auto, unfolding(crate::specs::Coordinates::degrees))]
-fn degrees(token: &Token<'_>, limit: u64) -> Result<i128, ZoneFault>
-    requires { limit ≤ 1_000_000_000_000_000 }
-    ensures value { result ≡ degrees limit (seen token.now) }
-    ensures range { IfOk result (λ n. unsigned_abs n ≤ limit) }
-{
-    match read_decimal(token.bytes, 12, i128::from(limit)) {
-        Ok(n) => Ok(n),
-        Err(NumFault::NotANumber) => Err(ZoneFault::BadNumber(token.place)),
-        Err(NumFault::TooLarge { negative: _ }) => Err(ZoneFault::OutOfRange(token.place)),
-    }
-}
-
-/// A longitude, in 10^-12 degrees.
-#[tactic(auto, unfolding(crate::specs::Coordinates::longitude))]
-fn longitude(token: &Token<'_>) -> Result<i128, ZoneFault>
-    ensures value { result ≡ longitude (seen token.now) }
-    ensures range { IfOk result IsLongitude }
-{
-    let x = degrees(token, FULL_TURN)?;
-    if x < WESTMOST {
-        return Err(ZoneFault::OutOfRange(token.place));
-    }
-    Ok(x)
-}
-
-/// A latitude, in 10^-12 degrees.
-fn latitude(token: &Token<'_>) -> Result<i128, ZoneFault>
-    ensures value { result ≡ latitude (seen token.now) }
-    ensures range { IfOk result IsLatitude }
-{
-    degrees(token, NORTHMOST)
-}
-
-/// Whether a text is a number of any size.
-fn is_number(bytes: &[u8]) -> bool
-    ensures { result ≡ is_number (decimal_of 0 0 bytes.now) }
-{
-    !matches!(read_decimal(bytes, 0, 0), Err(NumFault::NotANumber))
-}
-
-/// Whether the last point of a ring is its first.
-#[tactic(auto, unfolding(crate::specs::Grammar::is_closed))]
-fn is_closed(ring: &[Point]) -> bool
-    ensures { result ≡ is_closed ring.now }
-{
-    match (ring.first(), ring.last()) {
-        (Some(first), Some(last)) => first.is_same(last),
-        _ => false,
+        Ok(())
     }
 }

@@ -1,10 +1,13 @@
 ghost use Rattle.std.specs.Prelude.{◌≡◌, false, All};
 ghost use Rattle.ldp_zone.specs.Inside.{ring_edges, edges_from};
 ghost use Rattle.ldp_zone.specs.Area.{IsNear, IsRing, IsPlace, is_in_area};
+ghost use Rattle.ldp_zone.specs.Grammar.{is_closed};
 ghost use Rattle.ldp_zone.specs.Walk.{walk};
+ghost use Rattle.ldp_zone.specs.declared.walked.Walked.TheVariants.{Crossing};
 
 use crate::edge::Edge;
 use crate::point::Point;
+use crate::walked::Walked;
 use std::marker::Model;
 
 /// A ring, seen as the list of its points, of which the last is the first.
@@ -33,22 +36,29 @@ impl Ring {
         Ring { points }
     }
 
-    /// Walks along the edges: None where a point lies on one of them; else whether an odd number of edges crosses the ray
-    /// from it to the east, those before this ring included.
-    pub fn walk(&self, at: &Point, odd: bool) -> Option<bool>
+    pub fn points(&self) -> &[Point]
+        ensures value { result.now ≡ self.now }
+        ensures keeps { IsRing result.now }
+    {
+        &self.points
+    }
+
+    /// Walks along the edges; `odd` tells whether an odd number of edges before this ring crosses
+    /// the ray from the point to the east.
+    pub fn walk(&self, at: &Point, odd: bool) -> Walked
         requires { IsPlace at.now }
         ensures value { result ≡ walk at.now odd (ring_edges self.now) }
-        ensures outside { is_in_area at.now ≡ false → result ≡ Some odd }
+        ensures outside { is_in_area at.now ≡ false → result ≡ Crossing odd }
     {
         match self.points.split_first() {
-            None => Some(odd),
+            None => Walked::Crossing { odd },
             Some((first, rest)) => walk(*first, rest, at, odd),
         }
     }
 }
 
 /// The walk along the edges from a point over those that follow it.
-fn walk(first: Point, rest: &[Point], at: &Point, odd: bool) -> Option<bool>
+fn walk(first: Point, rest: &[Point], at: &Point, odd: bool) -> Walked
     requires first { IsNear first }
     requires rest { All IsNear rest.now }
     requires at { IsPlace at.now }
@@ -59,12 +69,23 @@ fn walk(first: Point, rest: &[Point], at: &Point, odd: bool) -> Option<bool>
     for point in rest {
         let edge = Edge { start, end: *point };
         if edge.holds(at) {
-            return None;
+            return Walked::OnEdge;
         }
         if edge.crosses(at) {
             odd = !odd;
         }
         start = *point;
     }
-    Some(odd)
+    Walked::Crossing { odd }
+}
+
+/// Whether the last point of a ring is its first.
+#[tactic(auto, unfolding(crate::specs::Grammar::is_closed))]
+pub fn is_closed(ring: &[Point]) -> bool
+    ensures { result ≡ is_closed ring.now }
+{
+    match (ring.first(), ring.last()) {
+        (Some(first), Some(last)) => first.is_same(last),
+        _ => false,
+    }
 }

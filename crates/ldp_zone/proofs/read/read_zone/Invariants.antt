@@ -1,6 +1,6 @@
 use Rattle.std.proofs.Common.{◌≡◌, length}
 use Rattle.ldp_zone.specs.Grammar.{zone_of}
-use Rattle.ldp_zone.specs.Steps.{rings_from}
+use Rattle.ldp_zone.proofs.TokensLeft.{rings_from}
 use Rattle.ldp_zone.proofs.read.read_zone.Given as goal
 
 abbrev pub invariant-loop-token : goal.invariant-loop-token
