@@ -1,2 +1,2 @@
+mod Rows
 mod Places
-mod Sites

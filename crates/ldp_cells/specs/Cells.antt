@@ -1,54 +1,64 @@
--- The cells of a zone over a grid of heights: the places that have a height and whose centre lies in the zone, in row order.
--- The north row comes first, each row from west to east (Esri ASCII grid). The rule of what lies in a zone is that of the
--- zone; the area and the limit are own choices of this project.
-use Rattle.std.specs.Prelude.{ℕ, ◌*◌, ◌/◌, ◌%◌, Bool, ◌&&◌, nat_le, ℤ, List, length, map, filter, filter_map, Option, None, option_map, is_none, Result, Ok, Err, if◌then◌else◌}
+-- The cells of a zone over a grid of heights: the places that have a height and whose centre lies
+-- in the zone, in row order. The north row comes first, each row from west to east (Esri ASCII
+-- grid). The rule of what lies in a zone is that of the zone; the area and the limit are own
+-- choices of this project.
+use Rattle.std.specs.Prelude.{ℕ, ◌*◌, ◌/◌, ◌%◌, Bool, ◌&&◌, nat_le, ℤ}
+use Rattle.std.specs.Prelude.{List, length, filter, filter_map}
+use Rattle.std.specs.Prelude.{Option, None, option_map, is_none, Result, Ok, Err, if◌then◌else◌}
 use Rattle.std.specs.List.{range_with_len}
-use Rattle.ldp_heights.specs.Grid.{HeightGrid, height_at, centre_x, centre_y}
+use Rattle.ldp_heights.specs.Grid.{HeightGrid, place_height, centre_x, centre_y}
 use Rattle.ldp_zone.specs.Inside.{inside}
 use Rattle.ldp_zone.specs.Area.{is_in_area}
 use Rattle.ldp_zone.specs.declared.point.Point.{Point}
 use Rattle.ldp_cells.specs.declared.cell.Cell.{Cell}
-use Rattle.ldp_cells.specs.declared.site.Site.{Site}
 use Rattle.ldp_cells.specs.declared.fault.CellsFault.{CellsFault}
 use Rattle.ldp_cells.specs.declared.fault.CellsFault.TheVariants.{TooManyCells}
 
--- the place at a row and a column: its centre, and its height where it has one
-abbrev pub site_in : HeightGrid → ℕ → ℕ → Site
-site_in grid row col = record {
-  row = row;
-  col = col;
-  x = centre_x grid col;
-  y = centre_y grid row;
-  height = height_at grid row col;
-}
+-- the point lies in the zone
+unfoldable pub in_zone : List (List Point) → Point → Bool
+in_zone rings at = inside rings at.x at.y
 
--- the place with this number in row order
-unfoldable pub site_at : HeightGrid → ℕ → Site
-site_at grid place = site_in grid (place / grid.cols) (place % grid.cols)
+-- the point lies in the closed rectangle of longitude -180 to 360 and latitude -80 to 80
+unfoldable pub in_area : Point → Bool
+in_area at = is_in_area at
 
--- all places of a grid
-unfoldable pub sites : HeightGrid → List Site
-sites grid = map (site_at grid) (range_with_len 0 (grid.cols * grid.rows))
-
--- the centre lies in the zone
-unfoldable pub in_zone : List (List Point) → Site → Bool
-in_zone rings site = inside rings site.x site.y
-
--- the centre lies in the closed rectangle of longitude -180 to 360 and latitude -80 to 80
-unfoldable pub in_area : Site → Bool
-in_area site = is_in_area record { x = site.x; y = site.y }
+-- the centre of the place at a row and a column
+abbrev pub centre : HeightGrid → ℕ → ℕ → Point
+centre grid row col = record { x = centre_x grid col; y = centre_y grid row }
 
 -- the cell of a place with this height
-abbrev pub cell_with : Site → ℤ → Cell
-cell_with site height = record { row = site.row; col = site.col; x = site.x; y = site.y; mm = height }
+abbrev pub cell_with : HeightGrid → ℕ → ℕ → ℤ → Cell
+cell_with grid row col height =
+    record { row = row; col = col; x = centre_x grid col; y = centre_y grid row; mm = height }
 
 -- the cell that a place is, if its centre passes the test and it has a height
-unfoldable pub cell_of : (Site → Bool) → Site → Option Cell
-cell_of test site = if test site then option_map (cell_with site) site.height else None
+unfoldable pub cell_in : (Point → Bool) → HeightGrid → ℕ → ℕ → Option Cell
+cell_in test grid row col =
+    if test (centre grid row col)
+    then option_map (cell_with grid row col) (place_height grid row col)
+    else None
 
--- a place whose centre passes the test and that has no height
-unfoldable pub is_gap : (Site → Bool) → Site → Bool
-is_gap test site = test site && is_none site.height
+-- the centre of a place passes the test, and it has no height
+unfoldable pub is_gap_in : (Point → Bool) → HeightGrid → ℕ → ℕ → Bool
+is_gap_in test grid row col = test (centre grid row col) && is_none (place_height grid row col)
+
+-- all places of a grid, by their numbers in row order
+unfoldable pub places : HeightGrid → List ℕ
+places grid = range_with_len 0 (grid.cols * grid.rows)
+
+unfoldable pub cell_at : (Point → Bool) → HeightGrid → ℕ → Option Cell
+cell_at test grid place = cell_in test grid (place / grid.cols) (place % grid.cols)
+
+unfoldable pub is_gap : (Point → Bool) → HeightGrid → ℕ → Bool
+is_gap test grid place = is_gap_in test grid (place / grid.cols) (place % grid.cols)
+
+-- the cells among the places whose centres pass the test
+abbrev pub cells_among : (Point → Bool) → HeightGrid → List Cell
+cells_among test grid = filter_map (cell_at test grid) (places grid)
+
+-- how many places beside them pass the test and have no height
+abbrev pub gaps_among : (Point → Bool) → HeightGrid → ℕ
+gaps_among test grid = length (filter (is_gap test grid) (places grid))
 
 -- the cells in row order, and how many places beside them have no height
 pub record CellList : Type 0 where
@@ -57,12 +67,13 @@ pub record CellList : Type 0 where
 
 -- at most 200,000 cells
 abbrev pub within_limit : CellList → Result CellList CellsFault
-within_limit list = if nat_le (length list.cells) 200_000 then Ok list else Err (TooManyCells (length list.cells))
+within_limit list =
+    if nat_le (length list.cells) 200_000 then Ok list else Err (TooManyCells (length list.cells))
 
 -- the cells among the places of a grid whose centres pass the test, or that they are too many
-unfoldable pub cells_where : (Site → Bool) → HeightGrid → Result CellList CellsFault
+unfoldable pub cells_where : (Point → Bool) → HeightGrid → Result CellList CellsFault
 cells_where test grid =
-    within_limit record { cells = filter_map (cell_of test) (sites grid); missing = length (filter (is_gap test) (sites grid)) }
+    within_limit record { cells = cells_among test grid; missing = gaps_among test grid }
 
 -- the cells of a zone
 abbrev pub zone_cells : List (List Point) → HeightGrid → Result CellList CellsFault

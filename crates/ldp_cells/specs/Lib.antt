@@ -1,3 +1,3 @@
 pub mod Cells
 pub mod Range
-pub mod Regions
+pub mod Tests

@@ -1,5 +1,5 @@
 ghost use Rattle.std.specs.Prelude.{◌≡◌, ◌<◌, ◌≤◌, length, All, Some, slice_get};
-ghost use Rattle.ldp_cells.specs.Range.{IsInRange};
+ghost use Rattle.ldp_cells.specs.Range.{IsInRange, IsCellList};
 
 use std::marker::Model;
 
@@ -18,7 +18,8 @@ pub struct Cell {
     pub mm: i32,
 }
 
-/// Cells in row order, at most 200,000, and how many places beside them lie in the zone and have no height.
+/// Cells in row order, at most 200,000, and how many places beside them lie in the zone and have no
+/// height.
 #[derive(Drop)]
 pub struct Cells {
     cells: Vec<Cell>,
@@ -33,7 +34,10 @@ impl Model for Cells {
 
     ghost view = { λ list. record { cells = list.cells.items; missing = list.missing } };
 
-    ghost invariant = { λ list. IsCellList record { cells = list.cells.items; missing = list.missing } };
+    ghost invariant = { λ list. IsCellList record {
+      cells = list.cells.items;
+      missing = list.missing;
+    } };
 }
 
 impl Cells {
@@ -49,6 +53,7 @@ impl Cells {
     pub fn len(&self) -> u32
         ensures value { result ≡ length self.now.cells }
         ensures few { result ≤ 200_000 }
+        ensures keeps { IsCellList self.now }
     {
         self.cells.len() as u32
     }

@@ -1,12 +1,14 @@
-ghost use Rattle.std.specs.Prelude.{◌≡◌, ◌≢◌, ◌<◌, ◌≤◌, ◌*◌, length, filter, filter_map, All, IfOk, Err};
-ghost use Rattle.ldp_cells.specs.Cells.{sites, cell_of, is_gap, cells_where, zone_cells, area_cells};
+ghost use Rattle.std.specs.Prelude.{◌≡◌, ◌≢◌, ◌≤◌, ◌*◌, length, All, IfOk, Err};
+ghost use Rattle.ldp_heights.specs.Grid.{most_places};
+ghost use Rattle.ldp_cells.specs.Cells.{cells_among, gaps_among, cells_where};
+ghost use Rattle.ldp_cells.specs.Cells.{zone_cells, area_cells};
 ghost use Rattle.ldp_cells.specs.Range.{IsInRange};
-ghost use Rattle.ldp_cells.specs.Regions.{test_of};
+ghost use Rattle.ldp_cells.specs.Tests.{test_of};
 
 use crate::cell::{Cell, Cells};
 use crate::fault::CellsFault;
+use crate::place::{cell_at, has_cell, has_gap};
 use crate::region::Region;
-use crate::site::site_at;
 use ldp_heights::Heights;
 use ldp_zone::Zone;
 use std::alloc::{AllocError, Global};
@@ -30,7 +32,8 @@ pub fn area_cells(alloc: Global, heights: &Heights) -> Result<Cells, CellsFault>
 
 #[tactic(auto, unfolding(crate::specs::Cells::cells_where))]
 fn cells_where(alloc: Global, region: &Region<'_>, heights: &Heights) -> Result<Cells, CellsFault>
-    ensures { result ≢ Err CellsFault.Memory → result ≡ cells_where (test_of region.now) heights.now }
+    ensures { result ≢ Err CellsFault.Memory
+        → result ≡ cells_where (test_of region.now) heights.now }
 {
     let count = count_cells(region, heights);
     if count > MOST_CELLS {
@@ -41,12 +44,12 @@ fn cells_where(alloc: Global, region: &Region<'_>, heights: &Heights) -> Result<
 }
 
 fn count_cells(region: &Region<'_>, heights: &Heights) -> u32
-    ensures { result ≡ length (filter_map (cell_of (test_of region.now)) (sites heights.now)) }
+    ensures { result ≡ length (cells_among (test_of region.now) heights.now) }
 {
     let mut count = 0;
     let places = count_places(heights);
     for place in 0..places {
-        if region.has_cell(&site_at(heights, place)) {
+        if has_cell(region, heights, place) {
             count += 1;
         }
     }
@@ -54,12 +57,12 @@ fn count_cells(region: &Region<'_>, heights: &Heights) -> u32
 }
 
 fn count_gaps(region: &Region<'_>, heights: &Heights) -> u32
-    ensures { result ≡ length (filter (is_gap (test_of region.now)) (sites heights.now)) }
+    ensures { result ≡ gaps_among (test_of region.now) heights.now }
 {
     let mut count = 0;
     let places = count_places(heights);
     for place in 0..places {
-        if region.has_gap(&site_at(heights, place)) {
+        if has_gap(region, heights, place) {
             count += 1;
         }
     }
@@ -72,13 +75,13 @@ fn list_cells(
     heights: &Heights,
     count: u32,
 ) -> Result<Vec<Cell>, AllocError>
-    ensures cells { IfOk result (λ cells. cells.items ≡ filter_map (cell_of (test_of region.now)) (sites heights.now)) }
-    ensures in_range { IfOk result (λ cells. All IsInRange cells.items) }
+    ensures cells { IfOk result (λ v. v.items ≡ cells_among (test_of region.now) heights.now) }
+    ensures in_range { IfOk result (λ v. All IsInRange v.items) }
 {
     let mut cells = Vec::with_capacity(alloc, count as usize)?;
     let places = count_places(heights);
     for place in 0..places {
-        if let Some(cell) = region.cell_of(&site_at(heights, place)) {
+        if let Some(cell) = cell_at(region, heights, place) {
             cells.push(cell)?;
         }
     }
@@ -88,7 +91,7 @@ fn list_cells(
 /// The number of places of a grid.
 fn count_places(heights: &Heights) -> u32
     ensures value { result ≡ heights.now.cols * heights.now.rows }
-    ensures few { result ≤ 4_000_000 }
+    ensures few { result ≤ most_places }
 {
     heights.cols() * heights.rows()
 }

@@ -1,13 +1,12 @@
-//! The cells of a zone: the places of a height grid that have a height and whose centre lies in the zone, in row order.
+//! The cells of a zone: the places of a height grid that have a height and whose centre lies in the
+//! zone, in row order.
 #![tactic(auto)]
 
 mod cell;
 mod choose;
 mod fault;
+mod place;
 mod region;
-mod site;
-#[cfg(test)]
-mod tests;
 
 pub use cell::{Cell, Cells};
 pub use choose::{area_cells, zone_cells};

@@ -1,6 +1,6 @@
 use Rattle.std.proofs.Common.{◌≤◌}
-use Rattle.ldp_cells.specs.Regions.{test_of}
-use Rattle.ldp_cells.proofs.Sites.{CellsCounted}
+use Rattle.ldp_cells.specs.Tests.{test_of}
+use Rattle.ldp_cells.proofs.Places.{CellsCounted}
 use Rattle.ldp_cells.proofs.choose.count_cells.Given as goal
 
 abbrev pub invariant-loop-place : goal.invariant-loop-place

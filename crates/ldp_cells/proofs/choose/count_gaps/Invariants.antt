@@ -1,6 +1,6 @@
 use Rattle.std.proofs.Common.{◌≤◌}
-use Rattle.ldp_cells.specs.Regions.{test_of}
-use Rattle.ldp_cells.proofs.Sites.{GapsCounted}
+use Rattle.ldp_cells.specs.Tests.{test_of}
+use Rattle.ldp_cells.proofs.Places.{GapsCounted}
 use Rattle.ldp_cells.proofs.choose.count_gaps.Given as goal
 
 abbrev pub invariant-loop-place : goal.invariant-loop-place

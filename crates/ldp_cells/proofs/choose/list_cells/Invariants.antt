@@ -1,7 +1,7 @@
 use Rattle.std.proofs.Common.{All}
 use Rattle.ldp_cells.specs.Range.{IsInRange}
-use Rattle.ldp_cells.specs.Regions.{test_of}
-use Rattle.ldp_cells.proofs.Sites.{CellsListed}
+use Rattle.ldp_cells.specs.Tests.{test_of}
+use Rattle.ldp_cells.proofs.Places.{CellsListed}
 use Rattle.ldp_cells.proofs.choose.list_cells.Given as goal
 
 abbrev pub invariant-loop-place : goal.invariant-loop-place
