@@ -2,4 +2,5 @@ mod Runs
 mod Rows
 mod Joints
 mod Worsts
+mod Usable
 mod CellLoop

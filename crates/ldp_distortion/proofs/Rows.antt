@@ -1,10 +1,13 @@
 -- The rows of a flat table.
-use Rattle.std.proofs.Common.{◌≡◌, ℕ, zero, suc, ◌+◌, ◌*◌, ◌-◌, ◌<◌, ◌≤◌, Bool, true, false, ℤ, List, [], ◌∷◌, ◌++◌, length, map, take, drop, get_or, arith, refl, sym, ap, ◌∙◌}
-use Rattle.std.proofs.lemmas.List.{take_all, take-append-le, drop-append-le, drop-drop, length-drop, nil_from_length, map_more}
-use Rattle.std.proofs.lemmas.Option.{slice_get_within, get_or_from_slice_get}
+use Rattle.std.proofs.Common.{◌≡◌, ℕ, zero, suc, ◌+◌, ◌*◌, ◌-◌, ◌<◌, ◌≤◌, Bool, true, false, ℤ, List, [], ◌∷◌, ◌++◌, length, map, take, drop, get_or, arith, refl, sym, ap, subst, ◌∙◌}
+use Rattle.std.proofs.lemmas.List.{length-take, take_all, take-append-le, drop-append-le, drop-drop, length-drop, nil_from_length, map_more}
+use Rattle.std.proofs.lemmas.List.Elements.{All-nil, All-cons, All-take, All-drop}
+use Rattle.std.proofs.lemmas.Option.{slice_get_within, get_or_from_slice_get, same_Some}
 use Rattle.std.proofs.Math.Nat.{mul-le-mul}
-use Rattle.std.specs.Prelude.{Option, Some, None, slice_get, if◌then◌else◌}
-use Rattle.ldp_distortion.specs.Rows.{RowTable, rows}
+use Rattle.std.specs.Prelude.{All, Option, Some, None, slice_get, if◌then◌else◌}
+use Rattle.std.specs.Option.{ForSome}
+use Rattle.ldp_num.specs.Number.{IsNumber}
+use Rattle.ldp_distortion.specs.Rows.{RowTable, rows, IsRow, AreRows}
 
 -- a row for each flag
 pub length-rows : (width : ℕ) (defined : List Bool) (numbers : List ℤ) → length (rows width defined numbers) ≡ length defined
@@ -85,3 +88,20 @@ rows_more f xs width defined numbers at x b row count full e h is so_far =
     ∙ ap (λ (rs : List (Option (List ℤ))). rs ++ (if b then Some row else None) ∷ []) so_far
     ∙ ap (λ (r : Option (List ℤ)). map f (take at xs) ++ r ∷ []) (sym here)
     ∙ sym (map_more f xs at x within)
+
+-- each row of a full table has its width
+row_of : (b : Bool) (width : ℕ) (numbers : List ℤ) → width ≤ length numbers → All IsNumber numbers
+    → ForSome (if b then Some (take width numbers) else None) (IsRow width)
+row_of true width numbers h k row e =
+    let same : take width numbers ≡ row = same_Some (take width numbers) row e in
+    subst (IsRow width) same (record { count = simp length-take (omega arith); in_range = All-take IsNumber width numbers k })
+row_of false width numbers h k row e = cc
+
+pub full_rows : (width : ℕ) (defined : List Bool) (numbers : List ℤ) → length numbers ≡ width * length defined → All IsNumber numbers
+    → AreRows width (rows width defined numbers)
+full_rows width [] numbers h k = All-nil (λ (row : Option (List ℤ)). ForSome row (IsRow width))
+full_rows width (b ∷ defined) numbers h k =
+    let left : length (drop width numbers) ≡ width * length defined = simp length-drop (omega arith) in
+    All-cons (λ (row : Option (List ℤ)). ForSome row (IsRow width)) (if b then Some (take width numbers) else None)
+    (rows width defined (drop width numbers)) (row_of b width numbers (omega arith) k)
+    (full_rows width defined (drop width numbers) left (All-drop IsNumber width numbers k))

@@ -7,13 +7,13 @@ use Rattle.std.proofs.lemmas.Option.{slice_get_within, get_or_from_slice_get}
 use Rattle.std.proofs.lemmas.List.{drop_all}
 use Rattle.std.specs.Option.{is_none}
 use Rattle.std.specs.List.{position_or_len}
-use Rattle.ldp_series.specs.StepList.{value}
+use Rattle.ldp_num.specs.StepList.{value}
 use Rattle.ldp_distortion.specs.Inputs.{design_inputs}
 use Rattle.ldp_distortion.specs.Distortion.{joined}
 use Rattle.ldp_distortion.specs.Prepared.{PreparedCells, distortions_of}
 use Rattle.ldp_distortion.specs.declared.inputs.Inputs.{Inputs}
 use Rattle.ldp_distortion.proofs.Joints.{no_design}
-use Rattle.ldp_distortion.specs.Worst.{greatest, absolute_values, worst_at, worst_of}
+use Rattle.ldp_distortion.specs.Worst.{largest, absolute_values, worst_at, worst_of}
 use Rattle.ldp_distortion.specs.declared.worst.Worst.{Worst}
 use Rattle.ldp_distortion.specs.declared.worst.Worst.TheVariants.{Is, Unusable}
 
@@ -25,24 +25,24 @@ worst_from value cell place (Some d ∷ more) =
     if nat_lt value (nat_abs d) then worst_from (nat_abs d) place (place + 1) more
     else worst_from value cell (place + 1) more
 
--- the first place of the greatest
-abbrev first_greatest : List ℕ → ℕ → ℕ
-first_greatest values most = position_or_len (λ one. one == most) values
+-- the first place of the largest
+abbrev first_largest : List ℕ → ℕ → ℕ
+first_largest values most = position_or_len (λ one. one == most) values
 
 -- the same at once: from the first undefined place, and the absolute values
 abbrev at_once : ℕ → ℕ → ℕ → Option ℕ → List ℕ → Worst
 at_once value cell place (Some at) values = Unusable (place + at)
 at_once value cell place None values =
-    Is (pos (max value (greatest values)))
-    (if nat_lt value (greatest values) then place + first_greatest values (greatest values) else cell)
+    Is (pos (max value (largest values)))
+    (if nat_lt value (largest values) then place + first_largest values (largest values) else cell)
 
-first_here : (n most : ℕ) (values : List ℕ) → n ≡ most → first_greatest (n ∷ values) most ≡ 0
+first_here : (n most : ℕ) (values : List ℕ) → n ≡ most → first_largest (n ∷ values) most ≡ 0
 first_here n most values e = let same : (n == most) ≡ true = grind (arith, nat_tests) in rw same refl
 
-first_later : (n most : ℕ) (values : List ℕ) → n < most → first_greatest (n ∷ values) most ≡ suc (first_greatest values most)
+first_later : (n most : ℕ) (values : List ℕ) → n < most → first_largest (n ∷ values) most ≡ suc (first_largest values most)
 first_later n most values h =
     let other : (n == most) ≡ false = grind (arith, nat_tests) in
-    let one : 1 + first_greatest values most ≡ suc (first_greatest values most) = omega arith in
+    let one : 1 + first_largest values most ≡ suc (first_largest values most) = omega arith in
     rw (other, one) refl
 
 pub when_true : {A : Type 0} (b : Bool) (x y : A) → b ≡ true → (if b then x else y) ≡ x
@@ -55,18 +55,18 @@ same_worst : (m n c d : ℕ) → m ≡ n → c ≡ d → Is (pos m) c ≡ Is (po
 same_worst m n c d e h = ap (λ (k : ℕ). Is (pos k) c) e ∙ ap (Is (pos n)) h
 
 later_place : (place n g : ℕ) (values : List ℕ) → n < g
-    → place + 1 + first_greatest values g ≡ place + first_greatest (n ∷ values) (max n g)
+    → place + 1 + first_largest values g ≡ place + first_largest (n ∷ values) (max n g)
 later_place place n g values h =
     let most : g ≡ max n g = omega arith in
     let below : n < max n g = omega arith in
-    let at : place + 1 + first_greatest values g ≡ place + suc (first_greatest values g) = omega arith in
-    at ∙ ap (λ (m : ℕ). place + suc (first_greatest values m)) most
+    let at : place + 1 + first_largest values g ≡ place + suc (first_largest values g) = omega arith in
+    at ∙ ap (λ (m : ℕ). place + suc (first_largest values m)) most
     ∙ ap (λ (k : ℕ). place + k) (sym (first_later n (max n g) values below))
 
 -- a value that is greater than the one so far
 rises : (best cell place n g : ℕ) (values : List ℕ) (later : Bool) → nat_lt n g ≡ later → best < n
-    → Is (pos (max n g)) (if nat_lt n g then place + 1 + first_greatest values g else place)
-    ≡ Is (pos (max best (max n g))) (if nat_lt best (max n g) then place + first_greatest (n ∷ values) (max n g) else cell)
+    → Is (pos (max n g)) (if nat_lt n g then place + 1 + first_largest values g else place)
+    ≡ Is (pos (max best (max n g))) (if nat_lt best (max n g) then place + first_largest (n ∷ values) (max n g) else cell)
 rises best cell place n g values true e h =
     let below : n < g = grind (arith, nat_tests) in
     let above : nat_lt best (max n g) ≡ true = lt-ltb best (max n g) (omega arith) in
@@ -75,15 +75,15 @@ rises best cell place n g values true e h =
 rises best cell place n g values false e h =
     let atmost : g ≤ n = grind (arith, nat_tests) in
     let above : nat_lt best (max n g) ≡ true = lt-ltb best (max n g) (omega arith) in
-    let here : place + first_greatest (n ∷ values) (max n g) ≡ place =
+    let here : place + first_largest (n ∷ values) (max n g) ≡ place =
     ap (λ (k : ℕ). place + k) (first_here n (max n g) values (omega arith)) ∙ add-zero place in
     same_worst _ _ _ _ (omega arith)
     (when_false (nat_lt n g) _ _ e ∙ sym here ∙ sym (when_true (nat_lt best (max n g)) _ _ above))
 
 -- a value that is not
 stays : (best cell place n g : ℕ) (values : List ℕ) (later : Bool) → nat_lt best g ≡ later → n ≤ best
-    → Is (pos (max best g)) (if nat_lt best g then place + 1 + first_greatest values g else cell)
-    ≡ Is (pos (max best (max n g))) (if nat_lt best (max n g) then place + first_greatest (n ∷ values) (max n g) else cell)
+    → Is (pos (max best g)) (if nat_lt best g then place + 1 + first_largest values g else cell)
+    ≡ Is (pos (max best (max n g))) (if nat_lt best (max n g) then place + first_largest (n ∷ values) (max n g) else cell)
 stays best cell place n g values true e h =
     let over : best < g = grind (arith, nat_tests) in
     let below : n < g = omega arith in
@@ -104,9 +104,9 @@ next_by : (value cell place n : ℕ) (at : Option ℕ) (values : List ℕ) (grea
 next_by value cell place n (Some at) values true e = ap Unusable (omega arith)
 next_by value cell place n (Some at) values false e = ap Unusable (omega arith)
 next_by value cell place n None values true e =
-    rises value cell place n (greatest values) values (nat_lt n (greatest values)) refl (grind (arith, nat_tests))
+    rises value cell place n (largest values) values (nat_lt n (largest values)) refl (grind (arith, nat_tests))
 next_by value cell place n None values false e =
-    stays value cell place n (greatest values) values (nat_lt value (greatest values)) refl (grind (arith, nat_tests))
+    stays value cell place n (largest values) values (nat_lt value (largest values)) refl (grind (arith, nat_tests))
 
 place_by : (k l : ℕ) (within : Bool) → nat_lt k l ≡ within
     → cond (nat_lt (1 + k) (suc l)) (Some (1 + k)) None ≡ option_map suc (cond (nat_lt k l) (Some k) None)
@@ -140,25 +140,25 @@ all_at_once value cell place (Some d ∷ more) =
     rw (first_undefined d more, all_at_once (nat_abs d) place (place + 1) more, all_at_once value cell (place + 1) more)
     (next_by value cell place (nat_abs d) (position is_none more) (absolute_values more) (nat_lt value (nat_abs d)) refl)
 
-zero_first : (values : List ℕ) → greatest values ≡ 0 → first_greatest values 0 ≡ 0
+zero_first : (values : List ℕ) → largest values ≡ 0 → first_largest values 0 ≡ 0
 zero_first [] h = refl
 zero_first (n ∷ values) h = first_here n 0 values (omega arith)
 
-begins_by : (at : Option ℕ) (values : List ℕ) (some : Bool) → nat_lt 0 (greatest values) ≡ some
+begins_by : (at : Option ℕ) (values : List ℕ) (some : Bool) → nat_lt 0 (largest values) ≡ some
     → at_once 0 0 0 at values ≡ worst_at at values
 begins_by (Some at) values some e = ap Unusable (omega arith)
 begins_by None values true e =
-    let most : max 0 (greatest values) ≡ greatest values = omega arith in
-    let at : 0 + first_greatest values (greatest values) ≡ first_greatest values (greatest values) = omega arith in
+    let most : max 0 (largest values) ≡ largest values = omega arith in
+    let at : 0 + first_largest values (largest values) ≡ first_largest values (largest values) = omega arith in
     rw (most, e, at) refl
 begins_by None values false e =
-    let none : greatest values ≡ 0 = grind (arith, nat_tests) in
+    let none : largest values ≡ 0 = grind (arith, nat_tests) in
     rw (none, zero_first values none) refl
 
 pub worst_from-is : (ds : List (Option ℤ)) → worst_from 0 0 0 ds ≡ worst_of ds
 unfolding worst_of
 worst_from-is ds =
-    all_at_once 0 0 0 ds ∙ begins_by (position is_none ds) (absolute_values ds) (nat_lt 0 (greatest (absolute_values ds))) refl
+    all_at_once 0 0 0 ds ∙ begins_by (position is_none ds) (absolute_values ds) (nat_lt 0 (largest (absolute_values ds))) refl
 
 -- the first of the distortions from a place on
 first_left : (ds : List (Option ℤ)) (at : ℕ) (d : Option ℤ) → slice_get ds at ≡ Some d → drop at ds ≡ d ∷ drop (at + 1) ds

@@ -16,7 +16,8 @@ pub record AreNumbers (at : Inputs) : Type 0 where
   pub azimuth : IsNumber at.azimuth
   pub scale : IsNumber at.scale
 
--- the inputs of the cell list: the latitude and the longitude of a cell, and its height over the semi-major axis
+-- the inputs of the cell list: the latitude and the longitude of a cell, and its height over the
+-- semi-major axis
 abbrev pub cell_inputs : Cell → List ℤ
 cell_inputs cell = radians_of cell.y ∷ radians_of cell.x ∷ height_number cell.mm ∷ []
 

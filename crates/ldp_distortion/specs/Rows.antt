@@ -1,5 +1,7 @@
--- A flat table: so many numbers a row, one row after another, and for each row whether it is defined.
+-- A flat table: so many numbers a row, one row after another, and for each row whether it is
+-- defined.
 use Rattle.std.specs.Prelude.{◌≡◌, ◌*◌, ◌≤◌, ℕ, Bool, ℤ, List, [], ◌∷◌, length, take, drop, All, Option, Some, None, if◌then◌else◌}
+use Rattle.std.specs.Option.{ForSome}
 use Rattle.ldp_num.specs.Number.{IsNumber}
 
 -- the width of the rows, and the rows, none where one is undefined
@@ -10,10 +12,20 @@ pub record RowTable : Type 0 where
 abbrev pub rows : ℕ → List Bool → List ℤ → List (Option (List ℤ))
 rows width [] numbers = []
 rows width (is_defined ∷ defined) numbers =
-    (if is_defined then Some (take width numbers) else None) ∷ rows width defined (drop width numbers)
+    (if is_defined then Some (take width numbers) else None)
+    ∷ rows width defined (drop width numbers)
 
 pub record IsTable (width : ℕ) (defined : List Bool) (numbers : List ℤ) : Type 0 where
   pub narrow : width ≤ 8
   pub few : length defined ≤ 200_000
   pub full : length numbers ≡ width * length defined
   pub in_range : All IsNumber numbers
+
+-- a row of so many numbers
+pub record IsRow (width : ℕ) (row : List ℤ) : Type 0 where
+  pub count : length row ≡ width
+  pub in_range : All IsNumber row
+
+-- each row that is defined has that width
+abbrev pub AreRows : ℕ → List (Option (List ℤ)) → Type 0
+AreRows width found = All (λ row. ForSome row (IsRow width)) found

@@ -5,7 +5,8 @@ ghost use Rattle.ldp_cells.specs.Range.{IsInRange};
 use ldp_cells::Cell;
 use ldp_num::{Fix, eta, radians};
 
-/// The inputs of a design list: angles in radians and the scale factor, all in units of 10^-15 (Snyder PP 1395, chapters 8, 9 and 15).
+/// The inputs of a design list: angles in radians and the scale factor, all in units of 10^-15
+/// (Snyder PP 1395, chapters 8, 9 and 15).
 #[derive(Clone, Copy, Debug, PartialEq, Eq)]
 pub struct Inputs {
     /// The latitude of the standard parallel (Lambert) or of the centre (Hotine).

@@ -2,10 +2,10 @@ ghost use Rattle.std.specs.Prelude.{◌≡◌, ◌<◌, ◌++◌, All, Some, IfO
 ghost use Rattle.ldp_num.specs.Number.{IsNumber};
 ghost use Rattle.ldp_distortion.specs.Inputs.{numbers};
 ghost use Rattle.ldp_distortion.specs.Distortion.{cell_results};
+ghost use Rattle.ldp_distortion.specs.Rows.{AreRows};
 
 use crate::Memory;
 use crate::inputs::cell_inputs;
-use crate::run::run_into;
 use ldp_cells::Cells;
 use ldp_num::{Bench, Fix};
 use ldp_series::List;
@@ -15,8 +15,8 @@ use std::marker::Model;
 /// The most results of a list.
 const MOST_RESULTS: usize = 8;
 
-/// The results of the cell list at each cell, or that they are undefined. The numbers of all cells stand in one list, so many a cell;
-/// those of an undefined cell stand for nothing.
+/// The results of the cell list at each cell, or that they are undefined. The numbers of all cells
+/// stand in one list, so many a cell; those of an undefined cell stand for nothing.
 #[derive(Drop)]
 pub struct Table {
     width: usize,
@@ -30,7 +30,10 @@ impl Model for Table {
 
     ghost Value = { RowTable };
 
-    ghost view = { λ table. record { width = table.width; rows = rows table.width table.defined.items table.numbers.items } };
+    ghost view = { λ table. record {
+      width = table.width;
+      rows = rows table.width table.defined.items table.numbers.items;
+    } };
 
     ghost invariant = { λ table. IsTable table.width table.defined.items table.numbers.items };
 }
@@ -40,7 +43,9 @@ impl Table {
     pub fn over(alloc: Global, list: &List, cells: &Cells) -> Result<Table, Memory>
         requires { list.now.inputs ≡ 3 }
         ensures width { IfOk result (λ table. table.width ≡ length list.now.outs) }
-        ensures rows { IfOk result (λ table. table.rows ≡ map (cell_results list.now) cells.now.cells) }
+        ensures rows { IfOk result (λ table.
+            table.rows ≡ map (cell_results list.now) cells.now.cells) }
+        ensures full { IfOk result (λ table. AreRows (length list.now.outs) table.rows) }
     {
         let count = cells.len();
         let width = list.outs().len();
@@ -51,7 +56,7 @@ impl Table {
         let mut numbers = Vec::with_capacity(alloc, width * count as usize)?;
         for cell in 0..count {
             let inputs = cell_inputs(&cells.get(cell));
-            defined.push(run_into(&mut bench, list, &inputs, results))?;
+            defined.push(list.run_into(&mut bench, &inputs, results))?;
             push_numbers(&mut numbers, results)?;
         }
         Ok(Table {

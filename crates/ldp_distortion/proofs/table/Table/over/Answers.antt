@@ -1,14 +1,14 @@
-use Rattle.std.proofs.Common.{◌≡◌, ◌+◌, ◌++◌, [], ◌∷◌, length, arith, ap, sym, ◌∙◌}
+use Rattle.std.proofs.Common.{◌≡◌, ◌+◌, ◌*◌, ◌++◌, [], ◌∷◌, length, arith, ap, sym, ◌∙◌}
 use Rattle.std.specs.Prelude.{if◌then◌else◌, Some, None}
 use Rattle.std.proofs.lemmas.List.{length-append, length-map, length-take, length_push}
 use Rattle.std.proofs.lemmas.List.Elements.{All-append}
 use Rattle.ldp_num.specs.Number.{IsNumber}
 use Rattle.ldp_num.specs.declared.fix.Fix.{Fix}
-use Rattle.ldp_series.specs.StepList.{value}
+use Rattle.ldp_num.specs.StepList.{value}
 use Rattle.ldp_distortion.specs.Inputs.{numbers}
 use Rattle.ldp_distortion.specs.Distortion.{cell_results}
-use Rattle.ldp_distortion.proofs.Rows.{rows_more}
-use Rattle.ldp_distortion.proofs.Runs.{numbers_all}
+use Rattle.ldp_distortion.proofs.Rows.{rows_more, full_rows}
+use Rattle.ldp_distortion.proofs.Runs.{numbers_all, run_numbers}
 use Rattle.ldp_distortion.proofs.table.Table.over.Goals as goal
 
 pub loop-cell-preserved : goal.loop-cell-preserved
@@ -19,7 +19,8 @@ loop-cell-preserved c =
     let outs : length c.outs-width.result.now ≡ length c.args.list.now.outs = ap length c.outs-width.ensures.outs in
     let width : length row ≡ length c.outs-width.result.now = omega (arith, length-take {A = Fix}) in
     let is_row : cell_results c.args.list.now c.get.result ≡ (if c.run_into.result then Some row else None) =
-    ap (value c.args.list.now) (sym c.cell_inputs-inputs.ensures) ∙ c.run_into.ensures.value in
+    ap (value c.args.list.now) (sym c.cell_inputs-inputs.ensures)
+    ∙ run_numbers c.args.list.now c.cell_inputs-inputs.result c.run_into.result c.run_into.new.results c.run_into.ensures.value in
     let flags : c.push.new.self.items ≡ c.loop-cell.defined.items ++ c.run_into.result ∷ [] = c.in_ok-push.ensures.items in
     let flagged : length (c.loop-cell.defined.items ++ c.run_into.result ∷ []) ≡ length c.loop-cell.defined.items + 1 =
     length_push c.loop-cell.defined.items c.run_into.result in
@@ -36,3 +37,11 @@ loop-cell-preserved c =
           c.loop-cell.numbers.items c.loop-cell.cell c.get.result c.run_into.result row so_far.count so_far.full width c.get.ensures.value
           is_row so_far.rows);
     }
+
+pub returns-clause-full : goal.returns-clause-full
+returns-clause-full c =
+    let so_far = c.loop-cell.invariant in
+    let outs : length c.outs-width.result.now ≡ length c.args.list.now.outs = ap length c.outs-width.ensures.outs in
+    let filled : length c.loop-cell.numbers.items ≡ length c.outs-width.result.now * length c.loop-cell.defined.items =
+    so_far.full ∙ ap (λ n. length c.outs-width.result.now * n) (sym so_far.count) in
+    rw (← outs) (full_rows (length c.outs-width.result.now) c.loop-cell.defined.items c.loop-cell.numbers.items filled so_far.in_range)
