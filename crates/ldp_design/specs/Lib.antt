@@ -1,0 +1,9 @@
+pub mod Boxes
+pub mod Designs
+pub mod Families
+pub mod Forests
+pub mod Inputs
+pub mod Laws
+pub mod Measures
+pub mod Shapes
+pub mod Splits
