@@ -1,0 +1,8 @@
+pub mod Columns
+pub mod Ranges
+pub mod Numbers
+pub mod Tables
+pub mod Axes
+pub mod Families
+pub mod Facts
+pub mod Reading

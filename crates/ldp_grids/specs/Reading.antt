@@ -1,0 +1,60 @@
+-- Reading a text of design grids: a TOML 1.1 document with the one key `family`, an array of 1 to
+-- 16 tables. The first fault is answered: those of the document, then those of each family. (Own
+-- choice of this project.)
+use Rattle.std.specs.Prelude.{ℕ, ◌+◌, ◌-◌, ◌^◌, min, Bool, not, ◌||◌, ◌==◌, nat_le, List, [], ◌∷◌, length, Option, None, is_some, option_and_then, Result, Ok, Err, if◌then◌else◌, codes, bytes_eq}
+use Rattle.std.specs.List.{list_all}
+use Rattle.std.specs.Option.{ok_or}
+use Rattle.std.specs.Str.{is_utf8}
+use Rattle.toml.specs.Data.{Data, Items, Members, get_member, as_array, as_table}
+use Rattle.toml.specs.Parse.{parse_document}
+use Rattle.ldp_tokens.specs.Mark.{without_mark}
+use Rattle.ldp_quantity.specs.Results.{◌>>=◌}
+use Rattle.ldp_design.specs.declared.family.Family.{Family}
+use Rattle.ldp_grids.specs.declared.fault.Key.TheVariants as keys
+use Rattle.ldp_grids.specs.declared.fault.GridFault.{GridFault}
+use Rattle.ldp_grids.specs.declared.fault.GridFault.TheVariants.{NotToml, NoFamily, TooManyFamilies, UnknownKey}
+use Rattle.ldp_grids.specs.Families.{family_of}
+use Rattle.ldp_grids.specs.Tables.{keys_of, values_of}
+
+-- the document of a text, which has to be UTF-8
+unfoldable pub document_of : List ℕ → Option Members
+document_of text = if is_utf8 text then parse_document text else None
+
+abbrev pub is_top_key : List ℕ → Bool
+is_top_key name = bytes_eq name (codes "family")
+
+abbrev pub are_tables : List Data → Bool
+are_tables values = list_all (λ value. is_some (as_table value)) values
+
+-- at least one table and at most 16; the count of more stands still at its type's end
+abbrev pub few_tables : List Data → Result (List Data) GridFault
+few_tables values =
+    if length values == 0 || not (are_tables values) then Err NoFamily
+    else if nat_le (length values) 16 then Ok values
+    else Err (TooManyFamilies (min (length values) (2 ^ 32 - 1)))
+
+-- the array of families
+unfoldable pub families_at : Members → Option Items
+families_at top = option_and_then as_array (get_member (codes "family") top)
+
+-- the tables of the families
+unfoldable pub tables_of : Members → Result (List Data) GridFault
+tables_of top =
+    if list_all is_top_key (keys_of top)
+    then (ok_or (families_at top) NoFamily >>= λ values. few_tables (values_of values))
+    else Err (UnknownKey 0 keys.Top)
+
+-- the families of the tables, of which the first has this number
+abbrev pub families_from : ℕ → List Data → Result (List Family) GridFault
+families_from family [] = Ok []
+families_from family (value ∷ rest) = ok_or (as_table value) NoFamily
+    >>= family_of family
+    >>= λ first. families_from (family + 1) rest
+    >>= λ others. Ok (first ∷ others)
+
+-- the families of a text; a mark in front is skipped
+unfoldable pub grids_of : List ℕ → Result (List Family) GridFault
+grids_of text = do
+  top ← ok_or (document_of (without_mark text)) NotToml
+  tables ← tables_of top
+  families_from 1 tables
