@@ -1,0 +1,4 @@
+pub mod Problem
+pub mod Pairs
+pub mod Costs
+pub mod Laws
