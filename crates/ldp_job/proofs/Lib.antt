@@ -1,0 +1,10 @@
+pub mod Walks
+pub mod Taken
+pub mod Designs
+pub mod Entered
+pub mod Heads
+pub mod Lined
+pub mod Shapes
+pub mod Plain
+pub mod Jobs
+pub mod Pushes
