@@ -14,7 +14,8 @@ pub record ShelfCounts : Type 0 where
 -- The counts after `begin` gave this answer.
 abbrev pub counts_after_begin : Opened → ℕ → ShelfCounts → ShelfCounts
 counts_after_begin opened.Ready place shelf = record shelf { begun = place }
-counts_after_begin opened.Failed place shelf = record { begun = place; faults = raised_at place shelf.faults }
+counts_after_begin opened.Failed place shelf =
+    record { begun = place; faults = raised_at place shelf.faults }
 counts_after_begin opened.Memory place shelf = record shelf { begun = place }
 
 -- The counts after `next` gave this answer.

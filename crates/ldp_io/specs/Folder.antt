@@ -1,5 +1,6 @@
 -- Files in memory (own choice of this project).
-use Rattle.std.specs.Prelude.{ℕ, Bool, List, [], ◌++◌, ◌==◌, length, take, drop, min, Option, Some, None, find, slice_get, if◌then◌else◌}
+use Rattle.std.specs.Prelude.{ℕ, Bool, List, [], ◌++◌, ◌==◌, length, take, drop, min, find}
+use Rattle.std.specs.Prelude.{Option, Some, None, slice_get, if◌then◌else◌}
 use Rattle.std.specs.Option.{option_map_or, is_some}
 use Rattle.std.specs.Str.{bytes_eq}
 use Rattle.ldp_io.specs.declared.shelf.Next.{Next}

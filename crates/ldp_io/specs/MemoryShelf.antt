@@ -7,8 +7,8 @@ use Rattle.ldp_io.specs.declared.shelf.Next.{Next}
 use Rattle.ldp_io.specs.declared.shelf.Opened.TheVariants as opened
 use Rattle.ldp_io.specs.declared.shelf.Next.TheVariants as nexts
 
--- The files and what is left of the one begun last, the numbers of the calls that are to fail, the number
--- of the next call, the place begun last, and how often a call for each place has failed.
+-- The files and what is left of the one begun last, the numbers of the calls that are to fail, the
+-- number of the next call, the place begun last, and how often a call for each place has failed.
 pub record ShelfState : Type 0 where
   pub folder : Folder
   pub listed : List ℕ
@@ -23,7 +23,8 @@ is_next_listed shelf = is_listed shelf.listed shelf.calls
 -- A call for a place fails where it is listed, and `begin` also where the name is not held.
 abbrev pub begin_answer : ShelfState → List ℕ → Opened
 begin_answer shelf name =
-    if is_next_listed shelf || not (is_held shelf.folder.files name) then opened.Failed else opened.Ready
+    if is_next_listed shelf || not (is_held shelf.folder.files name) then opened.Failed
+    else opened.Ready
 
 -- The shelf after `begin` gave this answer.
 abbrev pub after_begin : Opened → ℕ → List ℕ → ShelfState → ShelfState
@@ -42,7 +43,8 @@ after_begin opened.Memory place name shelf = shelf
 
 -- The answer to a buffer of so many bytes.
 abbrev pub next_answer : ShelfState → ℕ → Next
-next_answer shelf room = if is_next_listed shelf then nexts.Failed else plain_answer shelf.folder room
+next_answer shelf room =
+    if is_next_listed shelf then nexts.Failed else plain_answer shelf.folder room
 
 -- The shelf after `next` gave this answer.
 abbrev pub after_next : Next → ShelfState → ShelfState

@@ -21,8 +21,9 @@ IfTook (nexts.Took n) P = P n
 IfTook nexts.End P = Unit {0}
 IfTook nexts.Failed P = Unit {0}
 
--- What `next` takes stands at the front of the buffer, and the rest before is that and the rest now.
--- The end comes only where nothing is left. A call that takes nothing leaves the rest as it was.
+-- What `next` takes stands at the front of the buffer, and the rest before is that and the rest
+-- now. The end comes only where nothing is left. A call that takes nothing leaves the rest as it
+-- was.
 abbrev pub Takes : Next → List ℕ → Option (List ℕ) → Option (List ℕ) → Type 0
 Takes (nexts.Took n) buffer before now = before ≡ option_map (λ bytes. take n buffer ++ bytes) now
 Takes nexts.End buffer before now = (now ≡ before) × IfSome before (λ bytes. bytes ≡ [])

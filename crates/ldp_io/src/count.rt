@@ -1,6 +1,7 @@
 // Counts that stand still at their type's end, and the numbers of the calls that are to fail.
 ghost use Rattle.std.specs.Prelude.{◌≡◌, ◌<◌};
-ghost use Rattle.ldp_io.specs.Count.{raised as one_more, raised_at, AreCounts, is_listed as listed_call};
+ghost use Rattle.ldp_io.specs.Count.{raised as one_more, raised_at, AreCounts};
+ghost use Rattle.ldp_io.specs.Count.{is_listed as listed_call};
 
 pub(crate) fn raised(count: u64) -> u64
     ensures { result ≡ one_more count }

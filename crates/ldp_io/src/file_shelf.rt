@@ -81,8 +81,9 @@ impl<'a, R: Files> Shelf for FileShelf<'a, R> {
         ensures begun { self.new.begun ≡ self.old.begun }
         ensures later { Later (slice_index self.old.faults) (slice_index self.new.faults) }
         ensures in_range { AreCounts self.new.faults }
-        ensures failed { result ≡ Next.Failed →
-            Rose (slice_index self.old.faults self.old.begun) (slice_index self.new.faults self.old.begun) }
+        ensures failed { result ≡ Next.Failed → Rose
+            (slice_index self.old.faults self.old.begun)
+            (slice_index self.new.faults self.old.begun) }
     {
         let Some(file) = &mut self.opened else {
             return Next::End;

@@ -1,16 +1,17 @@
 // Files in memory, of which one is read: what the shelves in memory have in common.
-ghost use Rattle.std.specs.Prelude.{◌≡◌, ◌⊎◌, ◌+◌, ◌<◌, ◌≤◌, ◌^◌, [], ◌∷◌, ◌++◌, length, take, drop, min, None, IfSome, OnOk, OnErr, position};
+ghost use Rattle.std.specs.Prelude.{◌≡◌, ◌⊎◌, ◌+◌, ◌<◌, ◌≤◌, ◌^◌, [], ◌∷◌, ◌++◌, length, take};
+ghost use Rattle.std.specs.Prelude.{drop, min, position, None, IfSome, OnOk, OnErr};
 ghost use Rattle.ldp_io.specs.Folder.{Folder as Held, is_named, is_held, file_bytes, rest_of};
 
 use crate::Memory;
-use crate::file::File;
+use crate::memory_file::MemoryFile;
 use std::alloc::Global;
 use std::marker::Model;
 
 #[derive(Drop)]
 pub(crate) struct Folder {
     alloc: Global,
-    files: Vec<File>,
+    files: Vec<MemoryFile>,
     piece: usize,
     opened: Option<usize>,
     taken: usize,
@@ -19,9 +20,14 @@ pub(crate) struct Folder {
 impl Model for Folder {
     ghost Value = { Held };
 
-    ghost view = { λ s. record { files = s.files.items; piece = s.piece; rest = rest_of s.files.items s.opened s.taken } };
+    ghost view = { λ s. record {
+      files = s.files.items;
+      piece = s.piece;
+      rest = rest_of s.files.items s.opened s.taken;
+    } };
 
-    ghost invariant = { λ s. (1 ≤ s.piece) × IfSome s.opened (λ place. place < length s.files.items) };
+    ghost invariant = { λ s. (1 ≤ s.piece)
+        × IfSome s.opened (λ place. place < length s.files.items) };
 }
 
 impl Folder {
@@ -45,7 +51,7 @@ impl Folder {
         }) }
         ensures err { OnErr result (self.new ≡ self.old) }
     {
-        let file = File::new(self.alloc, name, bytes)?;
+        let file = MemoryFile::new(self.alloc, name, bytes)?;
         self.files.insert(0, file)?;
         if let Some(place) = self.opened {
             self.opened = Some(place + 1);
@@ -86,13 +92,13 @@ impl Folder {
     }
 }
 
-fn place_of(files: &[File], name: &str) -> Option<usize>
+fn place_of(files: &[MemoryFile], name: &str) -> Option<usize>
     ensures { result ≡ position (is_named name.now) files.now }
 {
     files.iter().position(|file| file.is_named(name))
 }
 
-fn rest_in(files: &[File], opened: Option<usize>, taken: usize) -> &[u8]
+fn rest_in(files: &[MemoryFile], opened: Option<usize>, taken: usize) -> &[u8]
     ensures rest { result.now ≡ rest_of files.now opened taken }
     ensures within { (length result.now ≡ 0) ⊎ (taken + length result.now < 2 ^ 64) }
 {

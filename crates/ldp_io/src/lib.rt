@@ -1,12 +1,13 @@
-//! The outside as the program sees it: a shelf of files that are read, and a sink for the bytes that are written.
-//! A call that fails raises a count, so that a caller's contract can say that a fault came from outside.
+//! The outside as the program sees it: a shelf of files that are read, and a sink for the bytes
+//! that are written. A call that fails raises a count, so that a caller's contract can say that a
+//! fault came from outside.
 #![tactic(auto)]
 
 mod append;
 mod count;
-mod file;
 mod file_shelf;
 mod folder;
+mod memory_file;
 mod memory_shelf;
 mod memory_sink;
 mod no_fault_shelf;
@@ -14,8 +15,6 @@ mod no_fault_sink;
 mod shelf;
 mod sink;
 mod stream_sink;
-#[cfg(test)]
-mod tests;
 
 pub use file_shelf::FileShelf;
 pub use memory_shelf::MemoryShelf;

@@ -1,9 +1,11 @@
 // A shelf of files in memory, which fails where it is told to.
-ghost use Rattle.std.specs.Prelude.{◌≡◌, ◌<◌, ◌≤◌, ◌^◌, ◌++◌, [], ◌∷◌, length, true, Some, OnOk, OnErr, slice_index};
+ghost use Rattle.std.specs.Prelude.{◌≡◌, ◌<◌, ◌≤◌, ◌^◌, ◌++◌, [], ◌∷◌, length, slice_index};
+ghost use Rattle.std.specs.Prelude.{true, Some, OnOk, OnErr};
 ghost use Rattle.ldp_io.specs.Count.{AreCounts, Later, Rose};
 ghost use Rattle.ldp_io.specs.Folder.{file_bytes, filled};
 ghost use Rattle.ldp_io.specs.Shelf.{IfTook};
-ghost use Rattle.ldp_io.specs.MemoryShelf.{ShelfState, begin_answer, after_begin, next_answer, after_next};
+ghost use Rattle.ldp_io.specs.MemoryShelf.{ShelfState, begin_answer, after_begin};
+ghost use Rattle.ldp_io.specs.MemoryShelf.{next_answer, after_next};
 
 use crate::Memory;
 use crate::count::{is_listed, raise_at, raised};
@@ -12,8 +14,8 @@ use crate::shelf::{Next, Opened, Shelf};
 use std::alloc::Global;
 use std::marker::Model;
 
-/// Its calls of `begin` and `next` are numbered together from 0, those that fail too. The number stands still
-/// at 2^64 - 1, so all calls from there on are that one.
+/// Its calls of `begin` and `next` are numbered together from 0, those that fail too. The number
+/// stands still at 2^64 - 1, so all calls from there on are that one.
 #[derive(Drop)]
 pub struct MemoryShelf {
     folder: Folder,
@@ -26,7 +28,13 @@ pub struct MemoryShelf {
 impl Model for MemoryShelf {
     ghost Value = { ShelfState };
 
-    ghost view = { λ s. record { folder = s.folder; listed = s.listed.items; calls = s.calls; begun = s.begun; faults = s.faults } };
+    ghost view = { λ s. record {
+      folder = s.folder;
+      listed = s.listed.items;
+      calls = s.calls;
+      begun = s.begun;
+      faults = s.faults;
+    } };
 
     ghost invariant = { λ s. (s.begun < 4) × AreCounts s.faults };
 }
@@ -52,8 +60,8 @@ impl MemoryShelf {
         }
     }
 
-    /// Puts a file, in place of one of that name. What is left of the file begun last stays, also where it had
-    /// that name.
+    /// Puts a file, in place of one of that name. What is left of the file begun last stays, also
+    /// where it had that name.
     pub fn put(&mut self, name: &str, bytes: &[u8]) -> Result<(), Memory>
         ensures ok { OnOk result (self.new ≡ record self.old {
           folder = record self.old.folder {
@@ -67,7 +75,9 @@ impl MemoryShelf {
 
     /// Lists one call of `begin` or `next`, which is to fail.
     pub fn fail_at(&mut self, call: u64) -> Result<(), Memory>
-        ensures ok { OnOk result (self.new ≡ record self.old { listed = self.old.listed ++ call ∷ [] }) }
+        ensures ok { OnOk result (self.new ≡ record self.old {
+          listed = self.old.listed ++ call ∷ [];
+        }) }
         ensures err { OnErr result (self.new ≡ self.old) }
     {
         self.listed.push(call)?;
@@ -90,7 +100,6 @@ impl Shelf for MemoryShelf {
         requires { place < 4 }
         ensures answer { result ≡ begin_answer self.old name.now }
         ensures state { self.new ≡ after_begin result place name.now self.old }
-        ensures place { self.new.begun ≡ place }
         ensures later { Later (slice_index self.old.faults) (slice_index self.new.faults) }
         ensures in_range { AreCounts self.new.faults }
         ensures failed { result ≡ Opened.Failed →
@@ -114,11 +123,11 @@ impl Shelf for MemoryShelf {
         ensures state { self.new ≡ after_next result self.old }
         ensures buffer { buf.new ≡ filled result self.old.folder.rest buf.old }
         ensures took { IfTook result (λ n. (1 ≤ n) × (n ≤ length buf.old)) }
-        ensures begun { self.new.begun ≡ self.old.begun }
         ensures later { Later (slice_index self.old.faults) (slice_index self.new.faults) }
         ensures in_range { AreCounts self.new.faults }
-        ensures failed { result ≡ Next.Failed →
-            Rose (slice_index self.old.faults self.old.begun) (slice_index self.new.faults self.old.begun) }
+        ensures failed { result ≡ Next.Failed → Rose
+            (slice_index self.old.faults self.old.begun)
+            (slice_index self.new.faults self.old.begun) }
     {
         let failed = is_listed(&self.listed, self.calls);
         self.calls = raised(self.calls);

@@ -27,7 +27,10 @@ impl NoFaultShelf {
     /// A shelf with no file, of which a call takes at most `piece` bytes.
     pub fn new(alloc: Global, piece: usize) -> NoFaultShelf
         requires { 1 ≤ piece }
-        ensures { result ≡ record { folder = record { files = []; piece = piece; rest = [] }; begun = 0 } }
+        ensures { result ≡ record {
+          folder = record { files = []; piece = piece; rest = [] };
+          begun = 0;
+        } }
     {
         NoFaultShelf {
             folder: Folder::new(alloc, piece),
@@ -35,8 +38,8 @@ impl NoFaultShelf {
         }
     }
 
-    /// Puts a file, in place of one of that name. What is left of the file begun last stays, also where it had
-    /// that name.
+    /// Puts a file, in place of one of that name. What is left of the file begun last stays, also
+    /// where it had that name.
     pub fn put(&mut self, name: &str, bytes: &[u8]) -> Result<(), Memory>
         ensures ok { OnOk result (self.new ≡ record self.old {
           folder = record self.old.folder {
@@ -73,7 +76,9 @@ impl Shelf for NoFaultShelf {
     fn next(&mut self, buf: &mut [u8]) -> Next
         requires { 1 ≤ length buf.old }
         ensures answer { result ≡ plain_answer self.old.folder (length buf.old) }
-        ensures state { self.new ≡ record self.old { folder = folder_after result self.old.folder } }
+        ensures state { self.new ≡ record self.old {
+          folder = folder_after result self.old.folder;
+        } }
         ensures buffer { buf.new ≡ filled result self.old.folder.rest buf.old }
         ensures took { IfTook result (λ n. (1 ≤ n) × (n ≤ length buf.old)) }
     {

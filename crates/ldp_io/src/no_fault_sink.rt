@@ -1,6 +1,6 @@
 // A sink that keeps what it is given, and never fails.
 ghost use Rattle.std.specs.Prelude.{◌≡◌, ◌≢◌, ◌<◌, ◌≤◌, ◌^◌, [], length, min, Some};
-ghost use Rattle.ldp_io.specs.Sink.{IfWrote};
+ghost use Rattle.ldp_io.specs.Sink.{Counts, IfWrote};
 ghost use Rattle.ldp_io.specs.NoFaultSink.{PlainSinkState, after_plain_write};
 
 use crate::append::append;
@@ -59,8 +59,7 @@ impl Sink for NoFaultSink {
             result ≡ Wrote.Took (min self.old.piece (length piece.now)) }
         ensures state { self.new ≡ after_plain_write result piece.now self.old }
         ensures took { IfWrote result (λ n. (1 ≤ n) × (n ≤ length piece.now)) }
-        ensures wants_later { self.old.wants ≤ self.new.wants }
-        ensures wants_in_range { self.new.wants < 2 ^ 64 }
+        ensures counts { Counts result 0 0 self.old.wants self.new.wants }
     {
         let wrote = append(&mut self.written, self.piece, piece);
         if let Wrote::Memory = wrote {

@@ -19,8 +19,8 @@ pub enum Next {
     Failed,
 }
 
-/// Files that are read by name, one at a time, in pieces. Its meanings are told where they are known: a shelf
-/// over real files tells nothing of what they hold.
+/// Files that are read by name, one at a time, in pieces. Its meanings are told where they are
+/// known: a shelf over real files tells nothing of what they hold.
 pub trait Shelf {
     /// The bytes under each name, where the shelf tells them.
     ghost files: { Self → Option Files };
@@ -47,7 +47,8 @@ pub trait Shelf {
         ensures serves { serves self.new ≡ serves self.old }
         ensures later { Later (faults self.old) (faults self.new) }
         ensures in_range { (each : ℕ) → faults self.new each < 2 ^ 64 }
-        ensures failed { result ≡ Opened.Failed → Rose (faults self.old place) (faults self.new place) };
+        ensures failed { result ≡ Opened.Failed →
+            Rose (faults self.old place) (faults self.new place) };
 
     /// Takes the next bytes of the file begun last.
     fn next(&mut self, buf: &mut [u8]) -> Next

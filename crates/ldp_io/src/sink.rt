@@ -1,7 +1,6 @@
 // Where bytes are written, in order.
-ghost use Rattle.std.specs.Prelude.{◌≡◌, ℕ, ◌<◌, ◌≤◌, ◌^◌, List, length, Option};
-ghost use Rattle.ldp_io.specs.Count.{Rose};
-ghost use Rattle.ldp_io.specs.Sink.{Grows, IfWrote};
+ghost use Rattle.std.specs.Prelude.{ℕ, ◌≤◌, List, length, Option};
+ghost use Rattle.ldp_io.specs.Sink.{Counts, Grows, IfWrote};
 
 /// The answer of `write`: how many bytes of the piece's front it took.
 #[derive(Clone, Copy, Debug, PartialEq, Eq)]
@@ -27,10 +26,6 @@ pub trait Sink {
         requires some { 1 ≤ length piece.now }
         ensures took { IfWrote result (λ n. (1 ≤ n) × (n ≤ length piece.now)) }
         ensures grows { Grows result piece.now (written self.old) (written self.new) }
-        ensures faults_later { faults self.old ≤ faults self.new }
-        ensures wants_later { wants self.old ≤ wants self.new }
-        ensures faults_in_range { faults self.new < 2 ^ 64 }
-        ensures wants_in_range { wants self.new < 2 ^ 64 }
-        ensures failed { result ≡ Wrote.Failed → Rose (faults self.old) (faults self.new) }
-        ensures memory { result ≡ Wrote.Memory → Rose (wants self.old) (wants self.new) };
+        ensures counts { Counts result
+            (faults self.old) (faults self.new) (wants self.old) (wants self.new) };
 }

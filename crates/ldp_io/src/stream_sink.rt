@@ -1,7 +1,7 @@
 // A sink over one of std's streams. Only `main` makes one, from what the runtime gives it.
 ghost use Rattle.std.specs.Prelude.{◌≡◌, ◌≢◌, ℕ, ◌<◌, ◌≤◌, ◌^◌, length, None};
 ghost use Rattle.ldp_io.specs.Count.{raised as one_more};
-ghost use Rattle.ldp_io.specs.Sink.{IfWrote};
+ghost use Rattle.ldp_io.specs.Sink.{Counts, IfWrote};
 
 use crate::count::raised;
 use crate::sink::{Sink, Wrote};
@@ -45,8 +45,7 @@ impl<W: Write + Drop> Sink for StreamSink<W> {
         ensures fault { result ≡ Wrote.Failed → self.new ≡ one_more self.old }
         ensures no_fault { IfWrote result (λ n. self.new ≡ self.old) }
         ensures no_want { result ≢ Wrote.Memory }
-        ensures faults_later { self.old ≤ self.new }
-        ensures faults_in_range { self.new < 2 ^ 64 }
+        ensures counts { Counts result self.old self.new 0 0 }
     {
         match self.stream.write(piece) {
             Ok(count) if count > 0 => Wrote::Took(count),

@@ -7,24 +7,24 @@ use std::alloc::Global;
 use std::marker::Model;
 
 #[derive(Drop)]
-pub(crate) struct File {
+pub(crate) struct MemoryFile {
     name: String,
     bytes: Vec<u8>,
 }
 
-impl Model for File {
+impl Model for MemoryFile {
     ghost Value = { NamedBytes };
 
     ghost view = { λ f. record { name = string_bytes f.name; bytes = f.bytes.items } };
 }
 
-impl File {
-    pub(crate) fn new(alloc: Global, name: &str, bytes: &[u8]) -> Result<File, Memory>
+impl MemoryFile {
+    pub(crate) fn new(alloc: Global, name: &str, bytes: &[u8]) -> Result<MemoryFile, Memory>
         ensures { IfOk result (λ file. file ≡ record { name = name.now; bytes = bytes.now }) }
     {
         let name = String::from_str(alloc, name)?;
         let bytes = Vec::from_slice(alloc, bytes)?;
-        Ok(File { name, bytes })
+        Ok(MemoryFile { name, bytes })
     }
 
     pub(crate) fn is_named(&self, name: &str) -> bool
