@@ -1,0 +1,20 @@
+use crate::refusal::Refusal;
+use std::alloc::AllocError;
+
+/// Why work over values that were read has no answer.
+#[derive(Clone, Copy, Debug, PartialEq, Eq)]
+pub enum WorkFault {
+    Refused(Refusal),
+    Memory,
+}
+
+impl From<AllocError> for WorkFault {
+    ghost use Rattle.std.specs.Prelude.{◌≡◌};
+    ghost use Rattle.ldp_answer.specs.declared.fault.WorkFault.TheVariants.{Memory as OutOfMemory};
+
+    ghost from_gives = { λ _ fault. fault ≡ OutOfMemory };
+
+    fn from(_: AllocError) -> WorkFault {
+        WorkFault::Memory
+    }
+}
