@@ -1,4 +1,2 @@
-mod NumberWords
 mod Writes
-mod Told
-mod Designs
+mod Taken

@@ -1,6 +1,7 @@
-pub mod Range
-pub mod Request
-pub mod EvalText
-pub mod Refusal
-pub mod Outcome
-pub mod Clauses
+pub mod Work
+pub mod Growth
+pub mod Taken
+pub mod Files
+pub mod Eval
+pub mod Commands
+pub mod Ending

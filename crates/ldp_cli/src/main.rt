@@ -1,15 +1,16 @@
 //! `ldp`: reads the words and files of a command, and writes what it answers.
 #![tactic(auto)]
 
+mod commands;
+mod ending;
 mod eval;
-mod eval_text;
-mod line;
-mod read_file;
-mod refusal;
+mod files;
+mod pieces;
 mod run;
+mod stop;
+mod take_file;
 #[cfg(test)]
 mod tests;
-mod words;
 mod write_all;
 
 use ldp_io::{FileShelf, StreamSink};

@@ -1,14 +1,16 @@
-ghost use Rattle.std.specs.Prelude.{◌≡◌, ◌≢◌, ◌↔◌, ◌⊎◌, ℕ, [], ◌∷◌, None, Ok, Err, IsOk, IfSome, IfErr, map, string_bytes};
+ghost use Rattle.std.specs.Prelude.{◌≡◌, ◌↔◌, ◌⊎◌, ℕ, ◌≤◌, [], ◌∷◌, map, string_bytes};
+ghost use Rattle.std.specs.Prelude.{None, Ok, Some, IfSome};
 ghost use Rattle.ldp_io.specs.Count.{Rose};
-ghost use Rattle.ldp_cli.specs.Request.{request};
-ghost use Rattle.ldp_cli.specs.Outcome.{outcome, status_of, text_of};
-ghost use Rattle.ldp_cli.specs.Clauses.{IsOneOf, Serves, asked_in, HasFailed, IsReadFault, IsOfWriting, Gives, Ends, Prints, KeepsOutput, GrowsByAll, GrowsByPrefix, TellsRefusal};
+ghost use Rattle.ldp_cli.specs.Files.{HasFailed};
+ghost use Rattle.ldp_cli.specs.Commands.{request, asked_in, outcome, Serves};
+ghost use Rattle.ldp_cli.specs.Ending.{IsOneOf, ending_status, Answers, Tells};
+ghost use Rattle.ldp_cli.specs.Ending.{EndsAs, EndsIn, IsOfWriting, KeepsOutput};
 
-use crate::eval::eval;
-use crate::refusal::{Refusal, Role};
-use crate::words::{Command, command_of};
+use crate::commands::{answer, request_of};
+use crate::ending::Ending;
+use crate::stop::Stop;
 use crate::write_all::{End, write_all};
-use ldp_decimal::Text;
+use ldp_answer::{Answer, Role};
 use ldp_io::{Shelf, Sink};
 use std::alloc::Global;
 
@@ -21,87 +23,78 @@ pub fn run_words<H: Shelf, O: Sink, E: Sink>(
     err: &mut E,
 ) -> u8
     requires { Serves (H.serves shelf.old) (map string_bytes words.now) }
-    ensures range { IsOneOf result (0 ∷ 2 ∷ 3 ∷ 4 ∷ 5 ∷ 6 ∷ 8 ∷ 9 ∷ 10 ∷ []) }
+    // Whatever the shelf and the sinks tell.
+    ensures range { result ≤ 10 }
     ensures usage { (result ≡ 2) ↔ (request (map string_bytes words.now) ≡ None) }
     ensures unread { result ≡ 3 → (place : ℕ) × (role : Role) × HasFailed place role
-        (asked_in (request (map string_bytes words.now))) (H.faults shelf.old) (H.faults shelf.new) (H.files shelf.old) }
+        (asked_in (request (map string_bytes words.now)))
+        (H.faults shelf.old) (H.faults shelf.new) (H.files shelf.old) }
     ensures unwritten { result ≡ 8 → Rose (O.faults out.old) (O.faults out.new) }
-    ensures status { IfSome (H.files shelf.old)
-        (λ files. IsOneOf result (status_of (outcome (map string_bytes words.now) files) ∷ 3 ∷ 8 ∷ 9 ∷ [])) }
-    ensures eight { IfSome (H.files shelf.old) (λ files. result ≡ 8 → IsOk (outcome (map string_bytes words.now) files)) }
-    ensures whole { IfSome (H.files shelf.old) (λ files. result ≡ 0 →
-        GrowsByAll (text_of (outcome (map string_bytes words.now) files)) (O.written out.old) (O.written out.new)) }
-    ensures part { IfSome (H.files shelf.old) (λ files. IsOneOf result (8 ∷ 9 ∷ []) →
-        GrowsByPrefix (text_of (outcome (map string_bytes words.now) files)) (O.written out.old) (O.written out.new)) }
-    ensures unchanged { IsOneOf result (2 ∷ 3 ∷ 4 ∷ 5 ∷ 6 ∷ 10 ∷ []) → O.written out.new ≡ O.written out.old }
-    ensures line { result ≢ 0 → TellsRefusal result (asked_in (request (map string_bytes words.now)))
-        (H.faults shelf.old) (H.faults shelf.new) (H.files shelf.old) (outcome (map string_bytes words.now))
+    ensures unchanged { IsOneOf result (2 ∷ 3 ∷ 4 ∷ 5 ∷ 6 ∷ 7 ∷ 10 ∷ [])
+        → O.written out.new ≡ O.written out.old }
+    // Where the shelf tells its files: the status and the output.
+    ensures answers { IfSome (H.files shelf.old) (λ files. Answers result
+        (outcome (map string_bytes words.now) files) (O.written out.old) (O.written out.new)) }
+    // The error output.
+    ensures line { IsOneOf result (0 ∷ 1 ∷ []) ⊎ Tells result
+        (asked_in (request (map string_bytes words.now))) (outcome (map string_bytes words.now))
+        (H.faults shelf.old) (H.faults shelf.new) (H.files shelf.old)
         (E.written err.old) (E.written err.new)
         (Rose (E.faults err.old) (E.faults err.new) ⊎ Rose (E.wants err.old) (E.wants err.new)) }
-    ensures quiet { result ≡ 0 → E.written err.new ≡ E.written err.old }
+    ensures quiet { IsOneOf result (0 ∷ 1 ∷ []) → E.written err.new ≡ E.written err.old }
 {
-    match print(alloc, words, shelf, out) {
-        Ok(()) => 0,
-        Err(refusal) => {
-            write_all(err, refusal.line().bytes());
-            refusal.status()
+    let ending = carry_out(alloc, words, shelf, out);
+    match ending {
+        Ending::Printed { .. } => {}
+        _ => {
+            write_all(err, ending.line().bytes());
         }
     }
+    ending.status()
 }
 
-/// Writes the text of the command to the output.
-fn print<H: Shelf, O: Sink>(
+/// Carries out the command, but for the line on the error output.
+fn carry_out<H: Shelf, O: Sink>(
     alloc: Global,
     words: &[String],
     shelf: &mut H,
     out: &mut O,
-) -> Result<(), Refusal>
+) -> Ending
     requires { Serves (H.serves shelf.old) (map string_bytes words.now) }
-    ensures usage { (result ≡ Err Refusal.Usage) ↔ (request (map string_bytes words.now) ≡ None) }
-    ensures read { IfErr result (λ refusal. IsReadFault refusal (asked_in (request (map string_bytes words.now)))
-        (H.faults shelf.old) (H.faults shelf.new) (H.files shelf.old)) }
-    ensures unwritten { result ≡ Err Refusal.Unwritten → Rose (O.faults out.old) (O.faults out.new) }
-    ensures ends { IfSome (H.files shelf.old) (λ files. Ends result (outcome (map string_bytes words.now) files)) }
-    ensures eight { IfSome (H.files shelf.old)
-        (λ files. result ≡ Err Refusal.Unwritten → IsOk (outcome (map string_bytes words.now) files)) }
-    ensures prints { IfSome (H.files shelf.old) (λ files. Prints result
-        (text_of (outcome (map string_bytes words.now) files)) (O.written out.old) (O.written out.new)) }
-    ensures unchanged { IfErr result (λ refusal. KeepsOutput refusal (O.written out.old) (O.written out.new)) }
+    ensures usage { (result ≡ Ending.Usage) ↔ (request (map string_bytes words.now) ≡ None) }
+    ensures fault { EndsIn (asked_in (request (map string_bytes words.now))) result
+        (H.faults shelf.old) (H.faults shelf.new) (H.files shelf.old) }
+    ensures unwritten { result ≡ Ending.Unwritten → Rose (O.faults out.old) (O.faults out.new) }
+    ensures ends { IfSome (H.files shelf.old) (λ files.
+        EndsAs result (outcome (map string_bytes words.now) files)) }
+    ensures answers { IfSome (H.files shelf.old) (λ files. Answers (ending_status result)
+        (outcome (map string_bytes words.now) files) (O.written out.old) (O.written out.new)) }
+    ensures unchanged { KeepsOutput result (O.written out.old) (O.written out.new) }
 {
-    let text = answer(alloc, words, shelf)?;
-    put(out, text.bytes())
-}
-
-fn put<O: Sink>(out: &mut O, text: &[u8]) -> Result<(), Refusal>
-    ensures prints { Prints result text.now (O.written out.old) (O.written out.new) }
-    ensures unwritten { result ≡ Err Refusal.Unwritten → Rose (O.faults out.old) (O.faults out.new) }
-    ensures cause { IfErr result IsOfWriting }
-{
-    match write_all(out, text).end {
-        End::Whole => Ok(()),
-        End::Failed => Err(Refusal::Unwritten),
-        End::Memory => Err(Refusal::Memory),
+    let Some(request) = request_of(words) else {
+        return Ending::Usage;
+    };
+    match answer(alloc, shelf, &request) {
+        Ok(answer) => put(out, &answer),
+        Err(Stop::Refused(refusal)) => Ending::Refused(refusal),
+        Err(Stop::Unread { place, role }) => Ending::Unread { place, role },
+        Err(Stop::Memory) => Ending::Memory,
     }
 }
 
-/// The text of the command. Nothing is written.
-fn answer<H: Shelf>(alloc: Global, words: &[String], shelf: &mut H) -> Result<Text, Refusal>
-    requires { Serves (H.serves shelf.old) (map string_bytes words.now) }
-    ensures answer { IfSome (H.files shelf.old)
-        (λ files. Gives result (outcome (map string_bytes words.now) files)) }
-    ensures usage { (result ≡ Err Refusal.Usage) ↔ (request (map string_bytes words.now) ≡ None) }
-    ensures read { IfErr result (λ refusal. IsReadFault refusal (asked_in (request (map string_bytes words.now)))
-        (H.faults shelf.old) (H.faults shelf.new) (H.files shelf.old)) }
-    ensures not_unwritten { result ≢ Err Refusal.Unwritten }
+/// Writes the text of an answer.
+fn put<O: Sink>(out: &mut O, answer: &Answer) -> Ending
+    ensures answers { Answers (ending_status result) (Some (Ok answer.now))
+        (O.written out.old) (O.written out.new) }
+    ensures ends { EndsAs result (Some (Ok answer.now)) }
+    ensures unwritten { result ≡ Ending.Unwritten → Rose (O.faults out.old) (O.faults out.new) }
+    ensures cause { IsOfWriting result }
 {
-    match command_of(words) {
-        None => Err(Refusal::Usage),
-        Some(
-            Command::Eval {
-                heights,
-                longitude,
-                scale,
-            },
-        ) => eval(alloc, shelf, heights, longitude, scale),
+    match write_all(out, answer.text.bytes()).end {
+        End::Whole => Ending::Printed {
+            rejected: answer.rejected,
+        },
+        End::Failed => Ending::Unwritten,
+        End::Memory => Ending::Memory,
     }
 }

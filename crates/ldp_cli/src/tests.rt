@@ -1,4 +1,1 @@
 mod commands;
-mod projections;
-mod ranges;
-mod three_cells;

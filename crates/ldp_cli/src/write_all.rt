@@ -1,6 +1,6 @@
 ghost use Rattle.std.specs.Prelude.{◌≡◌, ◌≤◌, length};
 ghost use Rattle.ldp_io.specs.Count.{Rose};
-ghost use Rattle.ldp_cli.specs.Clauses.{GrowsBy};
+ghost use Rattle.ldp_cli.specs.Growth.{GrowsBy};
 
 use ldp_io::{Sink, Wrote};
 

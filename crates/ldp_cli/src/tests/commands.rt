@@ -1,5 +1,5 @@
 use crate::run::run_words;
-use ldp_io::{MemoryShelf, MemorySink, NoFaultSink};
+use ldp_io::{MemoryShelf, MemorySink};
 use std::alloc::Global;
 use std::process::Abort;
 use std::test::Fail;
@@ -8,128 +8,283 @@ const ONE_CELL: &str = "ncols 1\nnrows 1\nxllcenter -105\nyllcenter 40\ncellsize
 
 const ONE_HIGH_CELL: &str = "ncols 1\nnrows 1\nxllcenter 0\nyllcenter 0\ncellsize 1\n1000\n";
 
-/// The words, the text of the file `g`, the status, the output and the line.
-const COMMANDS: [(&str, &str, u8, &str, &str); 18] = [
-    (
-        "eval g -105 1.00001",
-        ONE_CELL,
-        0,
-        "cells 1 missing 0\nworst 10.000000000 ppm at 0 0\n",
-        "",
-    ),
-    (
-        "eval g 0 1",
-        ONE_HIGH_CELL,
-        0,
-        "cells 1 missing 0\nworst 157.288291614 ppm at 0 0\n",
-        "",
-    ),
-    (
-        "eval g -105 2",
-        ONE_CELL,
-        0,
-        "cells 1 missing 0\nworst 1000000.000000000 ppm at 0 0\n",
-        "",
-    ),
-    (
-        "eval g -1.05e2 2.0000000000000004",
-        ONE_CELL,
-        0,
-        "cells 1 missing 0\nworst 1000000.000000000 ppm at 0 0\n",
-        "",
-    ),
-    (
-        "eval g -105. +1",
-        ONE_CELL,
-        0,
-        "cells 1 missing 0\nworst 0.000000000 ppm at 0 0\n",
-        "",
-    ),
-    (
-        "eval g -105 1e0",
-        ONE_CELL,
-        0,
-        "cells 1 missing 0\nworst 0.000000000 ppm at 0 0\n",
-        "",
-    ),
-    (
-        "eval g -105 .5",
-        ONE_CELL,
-        0,
-        "cells 1 missing 0\nworst 500000.000000000 ppm at 0 0\n",
-        "",
-    ),
-    (
-        "eval g -104 1.00001",
-        "NCOLS 2\r\nnrows 1\r\nYllCenter 40\r\nxllcenter -105\r\ncellsize\t1\r\n-9999 0\r\n",
-        0,
-        "cells 1 missing 1\nworst 10.000000000 ppm at 0 1\n",
-        "",
-    ),
-    (
-        "eval g 0 1.00001",
-        "ncols 1 nrows 2 xllcenter 0 yllcenter 80 cellsize 1 5 0",
-        0,
-        "cells 1 missing 0\nworst 10.000000000 ppm at 1 0\n",
-        "",
-    ),
-    ("eval g -95 1", ONE_CELL, 6, "", "no usable design\n"),
-    (
-        "eval absent -105 1",
-        ONE_CELL,
-        3,
-        "",
-        "cannot read heights\n",
-    ),
-    (
-        "eval g 0 1",
-        "ncols 1 nrows 1 xllcenter 0 yllcenter 81 cellsize 1 5",
-        5,
-        "",
-        "no cell\n",
-    ),
-    (
-        "eval g 0 1",
-        "ncols 2 ncols 2",
-        4,
-        "",
-        "refused heights RepeatedWord 8\n",
-    ),
-    (
-        "eval g 0 1",
-        "dx 1",
-        4,
-        "",
-        "refused heights UnknownWord 0\n",
-    ),
-    (
-        "eval g 0 1",
-        "ncols 1",
-        4,
-        "",
-        "refused heights MissingWord Nrows\n",
-    ),
-    (
-        "eval g 0 1",
-        "ncols 2\nnrows 2\nxllcenter 0\nyllcenter 0\ncellsize 1\n1 2 3 4 5\n",
-        4,
-        "",
-        "refused heights Trailing 59\n",
-    ),
-    (
-        "eval g 0 1",
-        "ncols 2\nnrows 2\nxllcenter 0\nyllcenter 0\ncellsize 1\n1 2 3\n",
-        4,
-        "",
-        "refused heights TooFew 3\n",
-    ),
-    (
-        "eval g 0 1",
-        "ncols 4000000 nrows 4000000 xllcenter 0 yllcenter 0 cellsize 1",
-        4,
-        "",
-        "refused heights TooMany\n",
-    ),
+/// A run over a shelf that holds one file, `grid`, and gives 7 bytes a call. The output takes 10
+/// bytes a call, the error output 3.
+#[derive(Clone, Copy)]
+struct Run {
+    words: &'static str,
+    grid: &'static str,
+    /// The calls of the shelf, the output and the error output that fail, by their numbers from 0.
+    shelf_fails: Option<u64>,
+    output_fails: Option<u64>,
+    error_fails: Option<u64>,
+    status: u8,
+    output: &'static str,
+    error: &'static str,
+}
+
+/// A run that prints this, where no call fails.
+const PRINTED: Run = Run {
+    words: "eval grid -105 1.00001",
+    grid: ONE_CELL,
+    shelf_fails: None,
+    output_fails: None,
+    error_fails: None,
+    status: 0,
+    output: "cells 1 missing 0\nworst 10.000000000 ppm at 0 0\n",
+    error: "",
+};
+
+const USAGE: Run = Run {
+    status: 2,
+    output: "",
+    error: "usage\n",
+    ..PRINTED
+};
+
+const UNREAD: Run = Run {
+    status: 3,
+    output: "",
+    error: "cannot read heights\n",
+    ..PRINTED
+};
+
+const REFUSED: Run = Run {
+    words: "eval grid 0 1",
+    status: 4,
+    output: "",
+    ..PRINTED
+};
+
+const UNWRITTEN: Run = Run {
+    status: 8,
+    error: "cannot write\n",
+    ..PRINTED
+};
+
+const PRINTED_RUNS: [Run; 9] = [
+    PRINTED,
+    Run {
+        words: "eval grid 0 1",
+        grid: ONE_HIGH_CELL,
+        output: "cells 1 missing 0\nworst 157.288291614 ppm at 0 0\n",
+        ..PRINTED
+    },
+    Run {
+        words: "eval grid -105 2",
+        output: "cells 1 missing 0\nworst 1000000.000000000 ppm at 0 0\n",
+        ..PRINTED
+    },
+    Run {
+        words: "eval grid -1.05e2 2.0000000000000004",
+        output: "cells 1 missing 0\nworst 1000000.000000000 ppm at 0 0\n",
+        ..PRINTED
+    },
+    Run {
+        words: "eval grid -105. +1",
+        output: "cells 1 missing 0\nworst 0.000000000 ppm at 0 0\n",
+        ..PRINTED
+    },
+    Run {
+        words: "eval grid -105 1e0",
+        output: "cells 1 missing 0\nworst 0.000000000 ppm at 0 0\n",
+        ..PRINTED
+    },
+    Run {
+        words: "eval grid -105 .5",
+        output: "cells 1 missing 0\nworst 500000.000000000 ppm at 0 0\n",
+        ..PRINTED
+    },
+    Run {
+        words: "eval grid -104 1.00001",
+        grid: "NCOLS 2\r\nnrows 1\r\nYllCenter 40\r\nxllcenter -105\r\ncellsize\t1\r\n-9999 0\r\n",
+        output: "cells 1 missing 1\nworst 10.000000000 ppm at 0 1\n",
+        ..PRINTED
+    },
+    Run {
+        words: "eval grid 0 1.00001",
+        grid: "ncols 1 nrows 2 xllcenter 0 yllcenter 80 cellsize 1 5 0",
+        output: "cells 1 missing 0\nworst 10.000000000 ppm at 1 0\n",
+        ..PRINTED
+    },
+];
+
+const REFUSED_RUNS: [Run; 9] = [
+    Run {
+        grid: "ncols 2 ncols 2",
+        error: "refused heights RepeatedWord 8\n",
+        ..REFUSED
+    },
+    Run {
+        grid: "dx 1",
+        error: "refused heights UnknownWord 0\n",
+        ..REFUSED
+    },
+    Run {
+        grid: "ncols 1",
+        error: "refused heights MissingWord Nrows\n",
+        ..REFUSED
+    },
+    Run {
+        grid: "ncols 2\nnrows 2\nxllcenter 0\nyllcenter 0\ncellsize 1\n1 2 3 4 5\n",
+        error: "refused heights Trailing 59\n",
+        ..REFUSED
+    },
+    Run {
+        grid: "ncols 2\nnrows 2\nxllcenter 0\nyllcenter 0\ncellsize 1\n1 2 3\n",
+        error: "refused heights TooFew 3\n",
+        ..REFUSED
+    },
+    Run {
+        grid: "ncols 4000000 nrows 4000000 xllcenter 0 yllcenter 0 cellsize 1",
+        error: "refused heights TooMany\n",
+        ..REFUSED
+    },
+    Run {
+        grid: "ncols 1 nrows 1 xllcenter 0 yllcenter 81 cellsize 1 5",
+        status: 5,
+        error: "no cell\n",
+        ..REFUSED
+    },
+    Run {
+        words: "eval grid -95 1",
+        status: 6,
+        error: "no usable design\n",
+        ..REFUSED
+    },
+    Run {
+        words: "eval absent -105 1",
+        ..UNREAD
+    },
+];
+
+const USAGE_RUNS: [Run; 14] = [
+    Run { words: "", ..USAGE },
+    Run {
+        words: "eval",
+        ..USAGE
+    },
+    Run {
+        words: "eval grid -105",
+        ..USAGE
+    },
+    Run {
+        words: "eval grid -105 1 1",
+        ..USAGE
+    },
+    Run {
+        words: "measure grid -105 1",
+        ..USAGE
+    },
+    Run {
+        words: "evaluate grid -105 1",
+        ..USAGE
+    },
+    Run {
+        words: "eval grid 361 1",
+        ..USAGE
+    },
+    Run {
+        words: "eval grid -181 1",
+        ..USAGE
+    },
+    Run {
+        words: "eval grid -105 2.000000000000001",
+        ..USAGE
+    },
+    Run {
+        words: "eval grid -105 0.499999999999999",
+        ..USAGE
+    },
+    Run {
+        words: "eval grid -105 -1",
+        ..USAGE
+    },
+    Run {
+        words: "eval grid . 1",
+        ..USAGE
+    },
+    Run {
+        words: "eval grid -105 1e",
+        ..USAGE
+    },
+    Run {
+        words: "eval absent x 1",
+        ..USAGE
+    },
+];
+
+/// The shelf is asked 11 times for the grid of one cell: `begin`, nine pieces and the end.
+const FAILED_RUNS: [Run; 14] = [
+    Run {
+        shelf_fails: Some(0),
+        ..UNREAD
+    },
+    Run {
+        shelf_fails: Some(1),
+        ..UNREAD
+    },
+    Run {
+        shelf_fails: Some(5),
+        ..UNREAD
+    },
+    Run {
+        shelf_fails: Some(10),
+        ..UNREAD
+    },
+    Run {
+        shelf_fails: Some(11),
+        ..PRINTED
+    },
+    Run {
+        grid: "dx 1",
+        shelf_fails: Some(2),
+        ..UNREAD
+    },
+    Run {
+        output_fails: Some(0),
+        output: "",
+        ..UNWRITTEN
+    },
+    Run {
+        output_fails: Some(1),
+        output: "cells 1 mi",
+        ..UNWRITTEN
+    },
+    Run {
+        output_fails: Some(4),
+        output: "cells 1 missing 0\nworst 10.000000000 ppm",
+        ..UNWRITTEN
+    },
+    Run {
+        output_fails: Some(5),
+        ..PRINTED
+    },
+    Run {
+        words: "",
+        error_fails: Some(0),
+        error: "",
+        ..USAGE
+    },
+    Run {
+        words: "",
+        error_fails: Some(1),
+        error: "usa",
+        ..USAGE
+    },
+    Run {
+        shelf_fails: Some(0),
+        error_fails: Some(2),
+        error: "cannot",
+        ..UNREAD
+    },
+    Run {
+        output_fails: Some(1),
+        output: "cells 1 mi",
+        error_fails: Some(4),
+        error: "cannot write",
+        ..UNWRITTEN
+    },
 ];
 
 /// The words between blanks.
@@ -141,89 +296,86 @@ fn words_of(alloc: Global, line: &str) -> Result<Vec<String>, Fail> {
     Ok(words)
 }
 
-/// Runs words parted by blanks over one file, `g`, and compares the status and both texts.
-fn expect(
-    rt: &impl Abort,
-    alloc: Global,
-    words: &str,
-    text: &[u8],
-    status: u8,
-    output: &str,
-    line: &str,
-) -> Result<(), Fail> {
+fn expect(rt: &impl Abort, alloc: Global, run: &Run) -> Result<(), Fail> {
     let mut shelf = MemoryShelf::new(alloc, 7);
-    shelf.put("g", text)?;
-    let list = words_of(alloc, words)?;
-    let mut out = NoFaultSink::new(alloc, 10);
-    let mut err = NoFaultSink::new(alloc, 3);
+    shelf.put("grid", run.grid.as_bytes())?;
+    if let Some(call) = run.shelf_fails {
+        shelf.fail_at(call)?;
+    }
+    let words = words_of(alloc, run.words)?;
+    let mut out = MemorySink::new(alloc, 10);
+    if let Some(call) = run.output_fails {
+        out.fail_at(call)?;
+    }
+    let mut err = MemorySink::new(alloc, 3);
+    if let Some(call) = run.error_fails {
+        err.fail_at(call)?;
+    }
+    let status = run_words(alloc, &words, &mut shelf, &mut out, &mut err);
     assert_eq!(rt;
-        run_words(alloc, &list, &mut shelf, &mut out, &mut err),
-        status
+        err.bytes(),
+        run.error.as_bytes(),
+        "{} {}",
+        run.words,
+        run.error
     );
-    assert_eq!(rt; out.bytes(), output.as_bytes());
-    assert_eq!(rt; err.bytes(), line.as_bytes());
+    assert_eq!(rt;
+        out.bytes(),
+        run.output.as_bytes(),
+        "{} {}",
+        run.words,
+        run.error
+    );
+    assert_eq!(rt; status, run.status, "{} {}", run.words, run.error);
+    Ok(())
+}
+
+fn expect_each(rt: &impl Abort, alloc: Global, runs: &[Run]) -> Result<(), Fail> {
+    for run in runs {
+        expect(rt, alloc, run)?;
+    }
     Ok(())
 }
 
 #[test]
-fn worked_commands(rt: HostRuntime) -> Result<(), Fail> {
-    for (words, text, status, output, line) in COMMANDS {
-        expect(
-            &rt,
-            rt.alloc(),
-            words,
-            text.as_bytes(),
-            status,
-            output,
-            line,
-        )?;
-    }
-    Ok(())
+fn runs_that_print(rt: HostRuntime) -> Result<(), Fail> {
+    expect_each(&rt, rt.alloc(), &PRINTED_RUNS)
+}
+
+#[test]
+fn runs_that_are_refused(rt: HostRuntime) -> Result<(), Fail> {
+    expect_each(&rt, rt.alloc(), &REFUSED_RUNS)
 }
 
 #[test]
 fn words_in_no_form(rt: HostRuntime) -> Result<(), Fail> {
-    for words in [
-        "",
-        "eval",
-        "eval g -105",
-        "eval g -105 1 1",
-        "measure g -105 1",
-        "eval g 361 1",
-        "eval g -181 1",
-        "eval g -105 2.000000000000001",
-        "eval g -105 0.499999999999999",
-        "eval g -105 -1",
-        "eval g . 1",
-        "eval g -105 1e",
-    ] {
-        expect(
-            &rt,
-            rt.alloc(),
-            words,
-            ONE_CELL.as_bytes(),
-            2,
-            "",
-            "usage\n",
-        )?;
-    }
-    Ok(())
+    expect_each(&rt, rt.alloc(), &USAGE_RUNS)
 }
 
 #[test]
-fn output_that_fails_at_the_second_write(rt: HostRuntime) -> Result<(), Fail> {
-    let mut shelf = MemoryShelf::new(rt.alloc(), 7);
-    shelf.put("g", ONE_HIGH_CELL.as_bytes())?;
-    let words = words_of(rt.alloc(), "eval g 0 1")?;
-    let mut out = MemorySink::new(rt.alloc(), 10);
-    out.fail_at(1)?;
-    let mut err = NoFaultSink::new(rt.alloc(), 100);
-    assert_eq!(&rt;
-        run_words(rt.alloc(), &words, &mut shelf, &mut out, &mut err),
-        8
-    );
-    assert_eq!(&rt; out.bytes(), b"cells 1 mi".as_slice());
-    assert_eq!(&rt; err.bytes(), b"cannot write\n".as_slice());
+fn calls_that_fail(rt: HostRuntime) -> Result<(), Fail> {
+    expect_each(&rt, rt.alloc(), &FAILED_RUNS)
+}
+
+/// Runs `eval` over a long grid, whose shelf gives 4,096 bytes a call, and compares the status and
+/// the line.
+fn expect_long(
+    rt: &impl Abort,
+    alloc: Global,
+    text: &[u8],
+    fails: u64,
+    status: u8,
+    error: &str,
+) -> Result<(), Fail> {
+    let mut shelf = MemoryShelf::new(alloc, 4096);
+    shelf.put("grid", text)?;
+    shelf.fail_at(fails)?;
+    let words = words_of(alloc, "eval grid 10 1")?;
+    let mut out = MemorySink::new(alloc, 100);
+    let mut err = MemorySink::new(alloc, 100);
+    let got = run_words(alloc, &words, &mut shelf, &mut out, &mut err);
+    assert_eq!(rt; err.bytes(), error.as_bytes());
+    assert_eq!(rt; got, status);
     Ok(())
 }
 
@@ -232,24 +384,13 @@ fn output_that_fails_at_the_second_write(rt: HostRuntime) -> Result<(), Fail> {
 fn longest_file(rt: HostRuntime) -> Result<(), Fail> {
     let mut text = Vec::from_slice(rt.alloc(), b"dx 1")?;
     text.resize(128_000_001, b' ')?;
-    let mut shelf = MemoryShelf::new(rt.alloc(), 4096);
-    shelf.put("g", &text)?;
-    shelf.fail_at(31_252)?;
-    let words = words_of(rt.alloc(), "eval g 0 1")?;
-    let mut out = NoFaultSink::new(rt.alloc(), 100);
-    let mut err = NoFaultSink::new(rt.alloc(), 100);
-    assert_eq!(&rt;
-        run_words(rt.alloc(), &words, &mut shelf, &mut out, &mut err),
-        10
-    );
-    assert_eq!(&rt; err.bytes(), b"too long heights\n".as_slice());
-    Ok(())
+    expect_long(&rt, rt.alloc(), &text, 31_252, 10, "too long heights\n")
 }
 
 /// One row of so many heights of 0 m, all of them far from the central meridian.
 #[test]
 fn most_cells(rt: HostRuntime) -> Result<(), Fail> {
-    for (header, places, status, line) in [
+    for (header, places, status, error) in [
         (
             "ncols 200000 nrows 1 xllcenter 0 yllcenter 0 cellsize 1e-9",
             200_000,
@@ -267,16 +408,7 @@ fn most_cells(rt: HostRuntime) -> Result<(), Fail> {
         for _ in 0..places {
             text.extend_from_slice(b" 0")?;
         }
-        let mut shelf = MemoryShelf::new(rt.alloc(), 4096);
-        shelf.put("g", &text)?;
-        let words = words_of(rt.alloc(), "eval g 10 1")?;
-        let mut out = NoFaultSink::new(rt.alloc(), 100);
-        let mut err = NoFaultSink::new(rt.alloc(), 100);
-        assert_eq!(&rt;
-            run_words(rt.alloc(), &words, &mut shelf, &mut out, &mut err),
-            status
-        );
-        assert_eq!(&rt; err.bytes(), line.as_bytes());
+        expect_long(&rt, rt.alloc(), &text, u64::MAX, status, error)?;
     }
     Ok(())
 }

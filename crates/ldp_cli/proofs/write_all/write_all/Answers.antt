@@ -6,6 +6,6 @@ pub loop-count-preserved : goal.loop-count-preserved
 loop-count-preserved g c = record {
   grown = grows_on _ _ _ _ _ _ c.loop-count.invariant.grown c.in-Took.ensures.grows;
   within = omega (arith, c.in-Took.ensures.took);
-  faults_later = omega (arith, c.in-Took.ensures.faults_later);
-  wants_later = omega (arith, c.in-Took.ensures.wants_later);
+  faults_later = omega (arith, c.in-Took.ensures.counts.faults_later);
+  wants_later = omega (arith, c.in-Took.ensures.counts.wants_later);
 }

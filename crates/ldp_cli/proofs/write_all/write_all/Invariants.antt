@@ -1,5 +1,5 @@
 use Rattle.std.proofs.Common.{◌-◌, ◌≤◌, length}
-use Rattle.ldp_cli.specs.Clauses.{GrowsBy}
+use Rattle.ldp_cli.specs.Growth.{GrowsBy}
 use Rattle.ldp_cli.proofs.write_all.write_all.Given as goal
 
 abbrev pub invariant-loop-count : goal.invariant-loop-count

@@ -1,0 +1,43 @@
+-- The commands: which request a list of words is, its files, and what it answers. Own choice of
+-- this project.
+use Rattle.std.specs.Prelude.{ℕ, Bool, List, [], ◌∷◌, codes, bytes_eq, if◌then◌else◌}
+use Rattle.std.specs.Prelude.{Option, Some, None, option_map, Result}
+use Rattle.ldp_io.specs.Shelf.{Files}
+use Rattle.ldp_answer.specs.declared.answer.Answer.{Answer}
+use Rattle.ldp_answer.specs.declared.refusal.Refusal.{Refusal}
+use Rattle.ldp_cli.specs.Files.{Asked, ServesFrom}
+use Rattle.ldp_cli.specs.Eval.{eval_request, eval_files, eval_answer}
+use Rattle.ldp_cli.specs.declared.commands.Request.{Request}
+use Rattle.ldp_cli.specs.declared.commands.Request.TheVariants.{Eval}
+
+-- the request of a command's name and the words after it
+abbrev pub request_named : List ℕ → List (List ℕ) → Option Request
+request_named name words =
+    if bytes_eq name (codes "eval") then option_map Eval (eval_request words)
+    else None
+
+-- the request of the words after the program's name, if they are in a form
+abbrev pub request : List (List ℕ) → Option Request
+request [] = None
+request (name ∷ words) = request_named name words
+
+-- the files of a request, in the order of its words
+abbrev pub files_of : Request → List Asked
+files_of (Eval asked) = eval_files asked
+
+-- what a request answers, or why it is refused
+abbrev pub answer_to : Request → Files → Result Answer Refusal
+answer_to (Eval asked) files = eval_answer asked files
+
+-- the files of a list of words: none where it is in no form
+abbrev pub asked_in : Option Request → List Asked
+asked_in None = []
+asked_in (Some asked) = files_of asked
+
+-- the shelf serves the files that the words name
+abbrev pub Serves : (ℕ → List ℕ → Bool) → List (List ℕ) → Type 0
+Serves serves words = ServesFrom serves 0 (asked_in (request words))
+
+-- the answer to a list of words over files: none where the words are in no form
+abbrev pub outcome : List (List ℕ) → Files → Option (Result Answer Refusal)
+outcome words files = option_map (λ asked. answer_to asked files) (request words)

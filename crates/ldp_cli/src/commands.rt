@@ -1,0 +1,48 @@
+ghost use Rattle.std.specs.Prelude.{◌≡◌, IfErr, IfSome, map, string_bytes};
+ghost use Rattle.ldp_cli.specs.Files.{ServesFrom, Gives, StopsIn};
+ghost use Rattle.ldp_cli.specs.Commands.{request, request_named, files_of, answer_to};
+
+use crate::eval::{EvalWords, eval, eval_words};
+use crate::stop::Stop;
+use ldp_answer::Answer;
+use ldp_io::Shelf;
+use std::alloc::Global;
+
+/// What the words after the program's name ask for.
+#[derive(Drop)]
+pub enum Request<'a> {
+    Eval(EvalWords<'a>),
+}
+
+/// The request of the words, if they are in a form and each number is in its range.
+pub fn request_of(words: &[String]) -> Option<Request<'_>>
+    ensures { result ≡ request (map string_bytes words.now) }
+{
+    match words {
+        [] => None,
+        [name, words @ ..] => request_named(name.as_str(), words),
+    }
+}
+
+/// The request of a command's name and the words after it.
+fn request_named<'a>(name: &str, words: &'a [String]) -> Option<Request<'a>>
+    ensures { result ≡ request_named name.now (map string_bytes words.now) }
+{
+    if name == "eval" {
+        return Some(Request::Eval(eval_words(words)?));
+    }
+    None
+}
+
+/// The answer to a request. Nothing is written.
+pub fn answer<H: Shelf>(alloc: Global, shelf: &mut H, request: &Request<'_>) -> Result<Answer, Stop>
+    requires { ServesFrom (H.serves shelf.old) 0 (files_of request.now) }
+    ensures told { IfSome (H.files shelf.old) (λ files.
+        Gives result (answer_to request.now files)) }
+    ensures stops { IfErr result (λ stop. StopsIn (files_of request.now) stop
+        (H.faults shelf.old) (H.faults shelf.new) (H.files shelf.old)) }
+{
+    match request {
+        Request::Eval(words) => eval(alloc, shelf, words),
+    }
+}
