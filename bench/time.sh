@@ -1,12 +1,33 @@
 #!/usr/bin/env bash
-# Times runs of the transverse Mercator joint list: nanoseconds a run, the least of five. Give the number of runs, or take 5,000,000.
+# Nanoseconds of each operation and of each run of a joint list: the least processor time of nine
+# programs that repeat it, less that of the same program that repeats it not at all. Give how often
+# the operations are repeated, or take 20,000,000; a list is run a twentieth as often.
 set -eu
-runs=${1:-5000000}
+repeats=${1:-20000000}
 cd "$(dirname "$0")/../crates/ldp_timing"
-rt run -- 1 > /dev/null
-for _ in 1 2 3 4 5; do
-  before=$(date +%s%N)
-  ./out/ldp_timing "$runs" > /dev/null
-  after=$(date +%s%N)
-  echo $(((after - before) / runs))
-done | sort -n | head -n 1
+rt run > /dev/null
+
+# the least processor time of nine, in seconds
+least() {
+  for _ in 1 2 3 4 5 6 7 8 9; do
+    (TIMEFORMAT=%3U; time ./out/ldp_timing "$@" > /dev/null) 2>&1
+  done | sort -n | head -n 1
+}
+
+each() {
+  kind=$1 times=$2
+  shift 2
+  full=$(least "$kind" "$times" "$@")
+  empty=$(least "$kind" 0 "$@")
+  awk -v kind="$kind $*" -v full="$full" -v empty="$empty" -v times="$times" \
+    'BEGIN { printf "%-16s %8.1f ns\n", kind, (full - empty) * 1e9 / times }'
+}
+
+for kind in mul mul-chain div div-chain sqrt sqrt-chain; do
+  each "$kind" "$repeats"
+done
+for kind in tm lambert hotine; do
+  each "$kind" $((repeats / 20))
+  each "$kind" $((repeats / 20)) ranges
+done
+uptime

@@ -1,74 +1,99 @@
-//! Runs the joint list of the transverse Mercator projection over one cell and many central meridians, for `bench/` to time.
-//! It prints the sum of the distortions, and no time.
+//! Repeats one operation, or one run of a projection's joint list, for `bench/` to time. The first
+//! word says which, the second how often, and a third, `ranges`, has a list run in ranges; with no
+//! word each is repeated a little. It prints a sum or a count, and no time.
 #![tactic(auto)]
 
-ghost use Rattle.std.specs.Prelude.{◌≡◌};
-ghost use Rattle.ldp_series.specs.Shape.{HasShape};
+ghost use Rattle.std.specs.Prelude.{IfOk, IfSome};
+ghost use Rattle.ldp_timing.specs.Fitting.{Fitting};
 
-use ldp_num::{Bench, Fix, Num};
-use ldp_series::List;
+mod operations;
+mod runs;
+
+use crate::operations::{
+    chained_products, chained_quotients, chained_roots, products, quotients, roots,
+};
+use crate::runs::{in_numbers, in_ranges};
+use ldp_series::{Lists, Memory};
+use std::alloc::Global;
 use std::{env, io};
 
-/// How often the list is run where the words do not say.
-const RUNS: u32 = 1000;
+/// What can be repeated.
+const KINDS: [&str; 9] = [
+    "mul",
+    "mul-chain",
+    "div",
+    "div-chain",
+    "sqrt",
+    "sqrt-chain",
+    "tm",
+    "lambert",
+    "hotine",
+];
 
-/// The scale factor of each design, in units of 10^-15.
-const SCALE: i128 = 1_000_010_000_000_000;
+/// How often, where the words do not say.
+const RUNS: u32 = 100;
 
-/// What the cell at latitude 40°, longitude -105° and height 1500 m gives: its longitude, the cosine of its latitude, the three
-/// coefficients of the scale factor, and its ground factor.
-const LONGITUDE: i128 = -1_832_595_714_594_046;
-
-const COSINE: i128 = 766_044_443_118_979;
-
-const SECOND_POWER: i128 = 501_977_449_527_232;
-
-const FOURTH_POWER: i128 = 90_052_100_931_320;
-
-const SIXTH_POWER: i128 = -48_990_568_586_056;
-
-const GROUND: i128 = 999_764_738_489_866;
-
-/// From one central meridian to the next, in radian units; there are 1,000.
-const STEP: i128 = 100_000_000_000;
-
-/// The inputs of the joint list in this round.
-fn inputs(round: u32) -> [Fix; 8] {
-    [
-        Fix::constant(LONGITUDE + i128::from(round % 1000) * STEP),
-        Fix::constant(SCALE),
-        Fix::constant(LONGITUDE),
-        Fix::constant(COSINE),
-        Fix::constant(SECOND_POWER),
-        Fix::constant(FOURTH_POWER),
-        Fix::constant(SIXTH_POWER),
-        Fix::constant(GROUND),
-    ]
+/// The sum of an operation's results, where the kind is an operation.
+fn sum_of(kind: &[u8], runs: u32) -> Option<i128> {
+    match kind {
+        b"mul" => Some(products(runs)),
+        b"mul-chain" => Some(chained_products(runs)),
+        b"div" => Some(quotients(runs)),
+        b"div-chain" => Some(chained_quotients(runs)),
+        b"sqrt" => Some(roots(runs)),
+        b"sqrt-chain" => Some(chained_roots(runs)),
+        _ => None,
+    }
 }
 
-/// The sum of the distortions of so many runs.
-fn total(bench: &mut Bench<Fix>, joint: &List, runs: u32) -> i128
-    requires shape { HasShape 8 1 joint.now }
-    requires room { bench.old.room ≡ 4096 }
+/// The lists of a projection, where the kind is one.
+fn lists_of(alloc: Global, kind: &[u8]) -> Result<Option<Lists>, Memory>
+    ensures { IfOk result (λ found. IfSome found Fitting) }
 {
-    let mut sum = 0i128;
-    for round in 0..runs {
-        if bench.run(joint.steps(), &inputs(round)) {
-            for place in joint.outs() {
-                sum = sum.wrapping_add(bench.at(*place).n);
-            }
-        }
+    match kind {
+        b"tm" => Ok(Some(ldp_tm::lists(alloc)?)),
+        b"lambert" => Ok(Some(ldp_lambert::lists(alloc)?)),
+        b"hotine" => Ok(Some(ldp_hotine::lists(alloc, false)?)),
+        _ => Ok(None),
     }
-    sum
+}
+
+/// The sum of an operation's results, or how many runs of a joint list had a value; 0 for another
+/// kind.
+fn repeated(alloc: Global, kind: &[u8], runs: u32, ranges: bool) -> Result<i128, Memory> {
+    if let Some(sum) = sum_of(kind, runs) {
+        return Ok(sum);
+    }
+    let Some(lists) = lists_of(alloc, kind)? else {
+        return Ok(0);
+    };
+    let defined = if ranges {
+        in_ranges(alloc, &lists, runs)?
+    } else {
+        in_numbers(alloc, &lists, runs)?
+    };
+    Ok(i128::from(defined))
 }
 
 fn main(rt: HostRuntime) -> io::Result<()> {
-    let word = env::args(&rt)?.nth(1);
-    let runs = word
+    let mut words = env::args(&rt)?;
+    let kind = words.nth(1);
+    let runs = words
+        .next()
         .and_then(|word| word.parse::<u32>().ok())
         .unwrap_or(RUNS);
-    let lists = ldp_tm::lists(rt.alloc())?;
-    let mut bench = Bench::with_room(rt.alloc(), 4096)?;
-    let sum = total(&mut bench, &lists.joint, runs);
-    println!(rt; "{runs} runs, sum {sum}")
+    let ranges = words.next().is_some();
+    match kind {
+        Some(kind) => {
+            let sum = repeated(rt.alloc(), kind.as_bytes(), runs, ranges)?;
+            println!(rt; "{kind}: {runs} times, {sum}")?;
+        }
+        None => {
+            for kind in KINDS {
+                let sum = repeated(rt.alloc(), kind.as_bytes(), runs, ranges)?;
+                println!(rt; "{kind}: {runs} times, {sum}")?;
+            }
+        }
+    }
+    Ok(())
 }
