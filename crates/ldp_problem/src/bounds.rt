@@ -1,8 +1,8 @@
 ghost use Rattle.std.specs.Prelude.{◌≡◌, ◌<◌, ℕ, pos, is_some, option_map};
 ghost use Rattle.ldp_design.specs.Boxes.{LiesIn};
 ghost use Rattle.ldp_design.specs.Designs.{IsAdmitted};
-ghost use Rattle.ldp_bound.specs.Problem.{Problem, IsSound};
-ghost use Rattle.ldp_bound.specs.Costs.{bound_of, cost_of, count_up};
+ghost use Rattle.ldp_problem.specs.Problem.{Problem, IsSound};
+ghost use Rattle.ldp_problem.specs.Costs.{bound_of, cost_of, count_up};
 
 use crate::bound::Bound;
 use crate::cost::Cost;

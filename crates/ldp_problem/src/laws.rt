@@ -1,7 +1,7 @@
 //! What follows of any problem whose least distortions of boxes are sound.
-ghost use Rattle.ldp_bound.specs.Laws.{NoneUndefined, UsableHasNone, FirstUndefined};
-ghost use Rattle.ldp_bound.specs.Laws.{BoundBelow, LeafBelow, LowBelow};
-ghost use Rattle.ldp_bound.specs.Laws.{SingleExact, BoundAtCell, WorstAtCell};
+ghost use Rattle.ldp_problem.specs.Laws.{NoneUndefined, UsableHasNone, FirstUndefined};
+ghost use Rattle.ldp_problem.specs.Laws.{BoundBelow, LeafBelow, LowBelow};
+ghost use Rattle.ldp_problem.specs.Laws.{SingleExact, BoundAtCell, WorstAtCell};
 
 /// Where a design is undefined.
 pub fn undefined_cells()

@@ -7,12 +7,12 @@ use Rattle.std.specs.List.{position_or_len}
 use Rattle.ldp_design.specs.declared.design.Design.{Design}
 use Rattle.ldp_design.specs.declared.design_box.DesignBox.{DesignBox}
 use Rattle.ldp_design.specs.Boxes.{is_single, first_of}
-use Rattle.ldp_bound.specs.declared.pair.Pair.{Pair}
-use Rattle.ldp_bound.specs.declared.bound.Bound.{Bound}
-use Rattle.ldp_bound.specs.declared.bound.Bound.TheVariants as bounds
-use Rattle.ldp_bound.specs.declared.cost.Cost.{Cost}
-use Rattle.ldp_bound.specs.declared.cost.Cost.TheVariants as costs
-use Rattle.ldp_bound.specs.Problem.{Problem}
+use Rattle.ldp_problem.specs.declared.pair.Pair.{Pair}
+use Rattle.ldp_problem.specs.declared.bound.Bound.{Bound}
+use Rattle.ldp_problem.specs.declared.bound.Bound.TheVariants as bounds
+use Rattle.ldp_problem.specs.declared.cost.Cost.{Cost}
+use Rattle.ldp_problem.specs.declared.cost.Cost.TheVariants as costs
+use Rattle.ldp_problem.specs.Problem.{Problem}
 
 -- what is so at each of so many cells, in order
 abbrev pub at_cells : {A : Type 0} → (ℕ → A) → ℕ → List A

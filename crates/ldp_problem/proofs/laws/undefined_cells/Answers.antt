@@ -1,5 +1,5 @@
-use Rattle.ldp_bound.proofs.Facts.{none_undefined, usable_has_none, first_undefined_is}
-use Rattle.ldp_bound.proofs.laws.undefined_cells.Goals as goal
+use Rattle.ldp_problem.proofs.Facts.{none_undefined, usable_has_none, first_undefined_is}
+use Rattle.ldp_problem.proofs.laws.undefined_cells.Goals as goal
 
 pub returns-clause-none : goal.returns-clause-none
 returns-clause-none c = none_undefined

@@ -3,7 +3,7 @@
 use Rattle.std.specs.Prelude.{◌≡◌, Bool, false}
 use Rattle.std.specs.Ordering.{nat_cmp, ordering_then, is_lt}
 use Rattle.std.specs.declared.cmp.Ordering.{Ordering}
-use Rattle.ldp_bound.specs.declared.pair.Pair.{Pair}
+use Rattle.ldp_problem.specs.declared.pair.Pair.{Pair}
 
 abbrev pub pair_cmp : Pair → Pair → Ordering
 pair_cmp a b = ordering_then (nat_cmp a.over b.over) (nat_cmp a.value b.value)

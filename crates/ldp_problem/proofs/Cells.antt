@@ -6,7 +6,7 @@ use Rattle.std.proofs.lemmas.List.{length-append, get_or_push, get_or_append_lef
 use Rattle.std.proofs.lemmas.List.Sums.{sum_by-append, sum_by-cons, fails_before_first, passes_at_first}
 use Rattle.std.specs.Prelude.{Option, None, Some, nat_lt, ◌==◌, count_by}
 use Rattle.std.specs.List.{position_or_len, sum_by}
-use Rattle.ldp_bound.specs.Costs.{at_cells, largest, first_largest, beyond}
+use Rattle.ldp_problem.specs.Costs.{at_cells, largest, first_largest, beyond}
 
 pub length-at_cells : {A : Type 0} (f : ℕ → A) (n : ℕ) → length (at_cells f n) ≡ n
 length-at_cells f zero = refl

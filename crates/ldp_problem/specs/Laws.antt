@@ -3,10 +3,10 @@ use Rattle.std.specs.Prelude.{◌≡◌, ◌≤◌, ◌<◌, ℕ, Option, None, 
 use Rattle.ldp_design.specs.declared.design.Design.{Design}
 use Rattle.ldp_design.specs.declared.design_box.DesignBox.{DesignBox}
 use Rattle.ldp_design.specs.Boxes.{LiesIn, IsIn, IsSingle, first_of}
-use Rattle.ldp_bound.specs.Problem.{Problem, IsSound}
-use Rattle.ldp_bound.specs.Pairs.{AtMost}
-use Rattle.ldp_bound.specs.Costs.{IsUsable, first_undefined, cost, worst_cell}
-use Rattle.ldp_bound.specs.Costs.{bound, bound_cell, beyond, lows}
+use Rattle.ldp_problem.specs.Problem.{Problem, IsSound}
+use Rattle.ldp_problem.specs.Pairs.{AtMost}
+use Rattle.ldp_problem.specs.Costs.{IsUsable, first_undefined, cost, worst_cell}
+use Rattle.ldp_problem.specs.Costs.{bound, bound_cell, beyond, lows}
 
 -- a design is usable exactly where there is no first undefined cell
 abbrev pub NoneUndefined : Type 0

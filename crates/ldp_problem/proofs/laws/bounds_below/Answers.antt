@@ -1,5 +1,5 @@
-use Rattle.ldp_bound.proofs.Facts.{bound_below, leaf_below, low_below}
-use Rattle.ldp_bound.proofs.laws.bounds_below.Goals as goal
+use Rattle.ldp_problem.proofs.Facts.{bound_below, leaf_below, low_below}
+use Rattle.ldp_problem.proofs.laws.bounds_below.Goals as goal
 
 pub returns-clause-bound : goal.returns-clause-bound
 returns-clause-bound c = bound_below

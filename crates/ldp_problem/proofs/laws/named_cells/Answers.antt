@@ -1,5 +1,5 @@
-use Rattle.ldp_bound.proofs.Facts.{bound_at_cell, worst_at_cell}
-use Rattle.ldp_bound.proofs.laws.named_cells.Goals as goal
+use Rattle.ldp_problem.proofs.Facts.{bound_at_cell, worst_at_cell}
+use Rattle.ldp_problem.proofs.laws.named_cells.Goals as goal
 
 pub returns-clause-bound : goal.returns-clause-bound
 returns-clause-bound c = bound_at_cell

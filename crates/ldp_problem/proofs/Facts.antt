@@ -10,12 +10,12 @@ use Rattle.std.specs.List.{position_or_len}
 use Rattle.ldp_design.specs.declared.design.Design.{Design}
 use Rattle.ldp_design.specs.declared.design_box.DesignBox.{DesignBox}
 use Rattle.ldp_design.specs.Boxes.{LiesIn, IsIn, IsSingle, first_of}
-use Rattle.ldp_bound.specs.declared.pair.Pair.{Pair}
-use Rattle.ldp_bound.specs.Problem.{Problem, IsSound}
-use Rattle.ldp_bound.specs.Pairs.{AtMost}
-use Rattle.ldp_bound.specs.Costs.{at_cells, IsUsable, first_undefined, sizes, lows, tally, first_largest, beyond, cost, worst_cell, bound, bound_cell}
-use Rattle.ldp_bound.specs.Laws.{NoneUndefined, UsableHasNone, FirstUndefined, BoundBelow, LeafBelow, SingleExact, BoundAtCell, WorstAtCell, LowBelow}
-use Rattle.ldp_bound.proofs.Cells.{length-at_cells, same_cells, at_most_largest, largest_below, beyond_below, first_within, first_reaches, cell_at}
+use Rattle.ldp_problem.specs.declared.pair.Pair.{Pair}
+use Rattle.ldp_problem.specs.Problem.{Problem, IsSound}
+use Rattle.ldp_problem.specs.Pairs.{AtMost}
+use Rattle.ldp_problem.specs.Costs.{at_cells, IsUsable, first_undefined, sizes, lows, tally, first_largest, beyond, cost, worst_cell, bound, bound_cell}
+use Rattle.ldp_problem.specs.Laws.{NoneUndefined, UsableHasNone, FirstUndefined, BoundBelow, LeafBelow, SingleExact, BoundAtCell, WorstAtCell, LowBelow}
+use Rattle.ldp_problem.proofs.Cells.{length-at_cells, same_cells, at_most_largest, largest_below, beyond_below, first_within, first_reaches, cell_at}
 
 -- neither number is greater
 pub at_most_both : (a b : Pair) → a.over ≤ b.over → a.value ≤ b.value → AtMost a b
