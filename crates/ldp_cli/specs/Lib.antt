@@ -5,3 +5,4 @@ pub mod Files
 pub mod Eval
 pub mod Commands
 pub mod Ending
+pub mod Limits

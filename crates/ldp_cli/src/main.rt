@@ -5,6 +5,7 @@ mod commands;
 mod ending;
 mod eval;
 mod files;
+mod limits;
 mod pieces;
 mod run;
 mod stop;

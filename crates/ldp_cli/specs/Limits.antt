@@ -1,0 +1,52 @@
+-- What the words after the files say of a search. Own choice of this project.
+use Rattle.std.specs.Prelude.{ℕ, ◌≤◌, ◌^◌, ℤ, pos, ◌&&◌, List, [], ◌∷◌, codes, bytes_eq}
+use Rattle.std.specs.Prelude.{Option, None, Some, IfSome, option_map, option_and_then, if◌then◌else◌}
+use Rattle.std.specs.Result.{result_ok}
+use Rattle.ldp_spelling.specs.Numbers.{whole_in}
+use Rattle.ldp_quantity.specs.Between.{IsBetween, number_from_to}
+use Rattle.ldp_cli.specs.declared.limits.Limits.{Limits}
+
+-- where no word gives a budget, in nodes
+abbrev pub usual_budget : ℕ
+usual_budget = 200_000
+
+-- from one node to a million, in digits alone and without a leading zero
+abbrev pub budget_in : List ℕ → Option ℕ
+budget_in word = whole_in 1 1_000_000 word
+
+-- from 0 to a million parts per million, in units of 10^-9 ppm, rounded
+abbrev pub share_in : List ℕ → Option ℤ
+share_in word = result_ok (number_from_to 9 (pos 0) (pos (10 ^ 15)) word)
+
+abbrev pub budget_alone : List ℕ → Option Limits
+budget_alone word =
+    option_map (λ budget. record { budget = budget; tolerance = None }) (budget_in word)
+
+abbrev pub share_alone : List ℕ → Option Limits
+share_alone word =
+    option_map (λ share. record { budget = usual_budget; tolerance = Some share }) (share_in word)
+
+abbrev pub budget_and_share : List ℕ → List ℕ → Option Limits
+budget_and_share nodes ppm =
+    option_and_then (λ budget.
+    option_map (λ share. record { budget = budget; tolerance = Some share }) (share_in ppm))
+    (budget_in nodes)
+
+-- the words after the files: none, `--budget N`, `--share PPM`, or both in this order
+abbrev pub limits_in : List (List ℕ) → Option Limits
+limits_in [] = Some record { budget = usual_budget; tolerance = None }
+limits_in (name ∷ value ∷ []) =
+    if bytes_eq name (codes "--budget") then budget_alone value
+    else if bytes_eq name (codes "--share") then share_alone value
+    else None
+limits_in (first ∷ nodes ∷ second ∷ ppm ∷ []) =
+    if bytes_eq first (codes "--budget") && bytes_eq second (codes "--share")
+    then budget_and_share nodes ppm
+    else None
+limits_in _ = None
+
+-- the ranges of both numbers
+pub record AreLimits (limits : Limits) : Type 0 where
+  pub some : 1 ≤ limits.budget
+  pub few : limits.budget ≤ 1_000_000
+  pub tolerance : IfSome limits.tolerance (IsBetween (pos 0) (pos (10 ^ 15)))
