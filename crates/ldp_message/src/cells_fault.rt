@@ -1,5 +1,5 @@
 ghost use Rattle.std.specs.Prelude.{◌≡◌, ◌≤◌, ◌+◌, ◌++◌, length};
-ghost use Rattle.ldp_answer.specs.CellsFault.{cells_fault_text};
+ghost use Rattle.ldp_message.specs.CellsFault.{cells_fault_text};
 
 use crate::line::Line;
 use ldp_cells::CellsFault;

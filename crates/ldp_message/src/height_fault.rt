@@ -1,5 +1,5 @@
 ghost use Rattle.std.specs.Prelude.{◌≡◌, ◌≤◌, ◌+◌, ◌++◌, length};
-ghost use Rattle.ldp_answer.specs.HeightFault.{word_name, height_fault_text};
+ghost use Rattle.ldp_message.specs.HeightFault.{word_name, height_fault_text};
 
 use crate::line::Line;
 use ldp_heights::{HeightFault, Word};

@@ -1,10 +1,13 @@
 ghost use Rattle.std.specs.Prelude.{◌≡◌, ◌≤◌, length};
-ghost use Rattle.ldp_answer.specs.Refusal.{role_name};
+ghost use Rattle.ldp_message.specs.Role.{role_name};
 
 /// What a file of a command is for.
 #[derive(Clone, Copy, Debug, PartialEq, Eq)]
 pub enum Role {
+    Zone,
     Heights,
+    Grids,
+    Job,
 }
 
 impl Role {
@@ -14,7 +17,10 @@ impl Role {
         ensures short { length result.now ≤ 7 }
     {
         match self {
+            Role::Zone => b"zone",
             Role::Heights => b"heights",
+            Role::Grids => b"grids",
+            Role::Job => b"job",
         }
     }
 }

@@ -1,4 +1,4 @@
-use Rattle.ldp_answer.proofs.height_fault.push_height_fault.Goals as goal
+use Rattle.ldp_message.proofs.height_fault.push_height_fault.Goals as goal
 
 pub returns-in-MissingWord-clause-text : goal.returns-in-MissingWord-clause-text
 returns-in-MissingWord-clause-text c =
