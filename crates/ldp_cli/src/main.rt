@@ -4,13 +4,16 @@
 mod commands;
 mod ending;
 mod eval;
-mod files;
+mod hashed;
+mod inputs;
 mod pieces;
+mod problem_files;
 mod run;
 mod stop;
 mod take_file;
 #[cfg(test)]
 mod tests;
+mod texts;
 mod write_all;
 
 use ldp_io::{FileShelf, StreamSink};
