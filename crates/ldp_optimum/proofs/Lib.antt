@@ -2,3 +2,5 @@ pub mod Listed
 pub mod Members
 pub mod Order
 pub mod Bests
+pub mod Trees
+pub mod Forests
