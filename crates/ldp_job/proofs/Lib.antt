@@ -8,3 +8,4 @@ pub mod Shapes
 pub mod Plain
 pub mod Jobs
 pub mod Pushes
+pub mod Short

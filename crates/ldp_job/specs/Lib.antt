@@ -6,3 +6,4 @@ pub mod Lines
 pub mod Entries
 pub mod Reading
 pub mod Pushed
+pub mod Laws

@@ -5,6 +5,7 @@ mod entry;
 mod fault;
 mod job;
 mod kind;
+pub mod laws;
 mod line;
 mod names;
 mod objective;
