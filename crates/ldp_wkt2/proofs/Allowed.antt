@@ -40,8 +40,11 @@ pub record Lies (range : Range) (z : ℤ) : Type 0 where
 
 pub lies_in : (range : Range) (z : ℤ) → Lies range z → IsTrue (is_in_range range z)
 lies_in range z h =
-    rw (int_le_yes range.low z h.low, int_le_yes z range.high h.high,
-    le_yes range.least (unsigned_abs z) h.least) refl
+    rw (
+      int_le_yes range.low z h.low,
+      int_le_yes z range.high h.high,
+      le_yes range.least (unsigned_abs z) h.least,
+    ) refl
 
 pub lies : (range : Range) (z : ℤ) → IsTrue (is_in_range range z) → Lies range z
 lies range z h =

@@ -75,12 +75,14 @@ number_found range text z e =
     let is = trimmed_found range.places range.low range.high text z
     (step.1 ∙ ap (λ (y : ℤ). Some y) far.1) in
     let least : nat_le range.least (unsigned_abs z) ≡ true =
-    ap (λ (y : ℤ). nat_le range.least (unsigned_abs y)) (sym far.1) ∙ far.0 in
-    (is.spelled, lies_in range z record {
-      low = is.above;
-      high = is.below;
-      least = le_is range.least (unsigned_abs z) least;
-    })
+    ap (λ (y : ℤ). nat_le range.least (unsigned_abs y)) (sym far.1) ∙ far.0 in (
+      is.spelled,
+      lies_in range z record {
+        low = is.above;
+        high = is.below;
+        least = le_is range.least (unsigned_abs z) least;
+      },
+    )
 
 number_again : (range : Range) (z : ℤ) → IsNarrow range → IsTrue (is_in_range range z)
     → number_in range (trimmed_text range.places z) ≡ Some z
@@ -201,8 +203,7 @@ value_again kind p z rest h =
     let text : List ℕ = number_text kind p z in
     let few : unsigned_abs z ≤ 2000000000000000 = small (row_of p).key kind z h in
     let plain = trimmed_values (range_of (row_of p).key kind).places z
-    (narrow (row_of p).key kind).places (omega (arith, few)) in
-    (
+    (narrow (row_of p).key kind).places (omega (arith, few)) in (
       ap (λ x. run (text ++ x)) next.1 ∙ run_is text next.0 plain,
       ap (λ x. behind_run (text ++ x)) next.1 ∙ (behind_run_is text next.0 plain ∙ sym next.1),
     )
