@@ -10,12 +10,12 @@ use Rattle.ldp_distortion.specs.Worst.{worst_of}
 use Rattle.ldp_distortion.specs.declared.worst.Worst.{Worst}
 use Rattle.ldp_distortion.specs.declared.worst.Worst.TheVariants.{Is, Unusable}
 use Rattle.ldp_quantity.specs.Results.{◌>>=◌}
-use Rattle.ldp_answer.specs.Refusal.{or_refused}
+use Rattle.ldp_message.specs.Refusal.{or_refused}
 use Rattle.ldp_answer.specs.Central.{CentralDesign, central_inputs}
 use Rattle.ldp_answer.specs.EvalText.{eval_text}
 use Rattle.ldp_answer.specs.declared.answer.Answer.{Answer}
-use Rattle.ldp_answer.specs.declared.refusal.Refusal.{Refusal}
-use Rattle.ldp_answer.specs.declared.refusal.Refusal.TheVariants as refusals
+use Rattle.ldp_message.specs.declared.refusal.Refusal.{Refusal}
+use Rattle.ldp_message.specs.declared.refusal.Refusal.TheVariants as refusals
 
 -- there is a cell
 abbrev pub some_cells : CellList → Result CellList Refusal

@@ -1,6 +1,3 @@
-pub mod HeightFault
-pub mod CellsFault
-pub mod Refusal
 pub mod Works
 pub mod Central
 pub mod EvalText

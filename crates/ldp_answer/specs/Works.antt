@@ -1,6 +1,6 @@
 -- What work over values that were read gives. Own choice of this project.
 use Rattle.std.specs.Prelude.{◌≡◌, Result, Ok, Err}
-use Rattle.ldp_answer.specs.declared.refusal.Refusal.{Refusal}
+use Rattle.ldp_message.specs.declared.refusal.Refusal.{Refusal}
 use Rattle.ldp_answer.specs.declared.fault.WorkFault.{WorkFault}
 use Rattle.ldp_answer.specs.declared.fault.WorkFault.TheVariants as faults
 

@@ -1,4 +1,4 @@
-use crate::refusal::Refusal;
+use ldp_message::Refusal;
 use std::alloc::AllocError;
 
 /// Why work over values that were read has no answer.

@@ -4,7 +4,7 @@ use Rattle.std.specs.Prelude.{ℕ, Bool, List, [], ◌∷◌, codes, bytes_eq, i
 use Rattle.std.specs.Prelude.{Option, Some, None, option_map, Result}
 use Rattle.ldp_io.specs.Shelf.{Files}
 use Rattle.ldp_answer.specs.declared.answer.Answer.{Answer}
-use Rattle.ldp_answer.specs.declared.refusal.Refusal.{Refusal}
+use Rattle.ldp_message.specs.declared.refusal.Refusal.{Refusal}
 use Rattle.ldp_cli.specs.Files.{Asked, ServesFrom}
 use Rattle.ldp_cli.specs.Eval.{eval_request, eval_files, eval_answer}
 use Rattle.ldp_cli.specs.declared.commands.Request.{Request}

@@ -3,9 +3,10 @@
 use Rattle.std.specs.Prelude.{◌≡◌, ◌⊎◌, ℕ, ◌≤◌, Bool, List, [], ◌∷◌, ◌++◌, length, codes}
 use Rattle.std.specs.Prelude.{Option, Some, None, IfSome, Result, Ok, Err, if◌then◌else◌}
 use Rattle.ldp_io.specs.Shelf.{Files}
-use Rattle.ldp_answer.specs.Refusal.{role_name, refusal_status, refusal_text}
+use Rattle.ldp_message.specs.Role.{role_name}
+use Rattle.ldp_message.specs.Refusal.{refusal_status, refusal_text}
 use Rattle.ldp_answer.specs.declared.answer.Answer.{Answer}
-use Rattle.ldp_answer.specs.declared.refusal.Refusal.{Refusal}
+use Rattle.ldp_message.specs.declared.refusal.Refusal.{Refusal}
 use Rattle.ldp_cli.specs.Growth.{GrowsByAll, GrowsBy, GrowsByPrefix}
 use Rattle.ldp_cli.specs.Files.{Asked, HasFailed}
 use Rattle.ldp_cli.specs.declared.ending.Ending.{Ending}

@@ -5,10 +5,11 @@ use Rattle.ldp_io.specs.Shelf.{Files}
 use Rattle.ldp_quantity.specs.Results.{◌>>=◌}
 use Rattle.ldp_answer.specs.Central.{CentralDesign, central_of}
 use Rattle.ldp_answer.specs.Eval.{eval_over}
-use Rattle.ldp_answer.specs.declared.role.Role.TheVariants as roles
+use Rattle.ldp_message.specs.declared.role.Role.TheVariants as roles
 use Rattle.ldp_answer.specs.declared.answer.Answer.{Answer}
-use Rattle.ldp_answer.specs.declared.refusal.Refusal.{Refusal}
-use Rattle.ldp_cli.specs.Files.{Asked, heights_read}
+use Rattle.ldp_message.specs.declared.refusal.Refusal.{Refusal}
+use Rattle.ldp_cli.specs.Readings.{heights_read}
+use Rattle.ldp_cli.specs.Files.{Asked}
 
 -- the name of the file of heights, and the transverse Mercator design
 pub record EvalRequest : Type 0 where

@@ -1,34 +1,13 @@
--- The files of a command: what each is for, what is read of it, and how its reading fails. Own
--- choice of this project.
-use Rattle.std.specs.Prelude.{◌≡◌, ℕ, ◌+◌, nat_le, Bool, IsTrue, List, [], ◌∷◌, length, take}
-use Rattle.std.specs.Prelude.{Option, Some, option_map, IfSome, slice_get}
-use Rattle.std.specs.Prelude.{Result, Ok, Err, is_ok, if◌then◌else◌}
-use Rattle.ldp_quantity.specs.Results.{◌>>=◌}
+-- The files of a command: what each is for, and how its reading fails. Own choice of this project.
+use Rattle.std.specs.Prelude.{◌≡◌, ℕ, ◌+◌, Bool, IsTrue, List, [], ◌∷◌, take}
+use Rattle.std.specs.Prelude.{Option, Some, option_map, IfSome, slice_get, Result, Ok, Err}
 use Rattle.ldp_io.specs.Count.{Rose}
 use Rattle.ldp_io.specs.Shelf.{Files}
-use Rattle.ldp_heights.specs.Grid.{HeightGrid}
-use Rattle.ldp_heights.specs.Reading.{heights_of}
-use Rattle.ldp_answer.specs.Refusal.{or_refused}
-use Rattle.ldp_answer.specs.declared.role.Role.{Role}
-use Rattle.ldp_answer.specs.declared.role.Role.TheVariants as roles
-use Rattle.ldp_answer.specs.declared.refusal.Refusal.{Refusal}
-use Rattle.ldp_answer.specs.declared.refusal.Refusal.TheVariants.{TooLong, RefusedHeights}
+use Rattle.ldp_message.specs.declared.role.Role.{Role}
+use Rattle.ldp_message.specs.declared.refusal.Refusal.{Refusal}
+use Rattle.ldp_cli.specs.Readings.{is_accepted}
 use Rattle.ldp_cli.specs.declared.stop.Stop.{Stop}
 use Rattle.ldp_cli.specs.declared.stop.Stop.TheVariants as stops
-
--- a text of at most 128,000,000 bytes
-abbrev pub short_text : Role → List ℕ → Result (List ℕ) Refusal
-short_text role text = if nat_le (length text) 128_000_000 then Ok text else Err (TooLong role)
-
--- the grid of a file of heights
-abbrev pub heights_read : List ℕ → Result HeightGrid Refusal
-heights_read file = do
-  text ← short_text roles.Heights file
-  or_refused RefusedHeights (heights_of text)
-
--- is a file accepted as what it is for?
-abbrev pub is_accepted : Role → List ℕ → Bool
-is_accepted roles.Heights file = is_ok (heights_read file)
 
 -- a file of a command: what it is for, and its name
 pub record Asked : Type 0 where

@@ -1,7 +1,9 @@
 pub mod Work
 pub mod Growth
 pub mod Taken
+pub mod Readings
 pub mod Files
+pub mod ProblemFiles
 pub mod Eval
 pub mod Commands
 pub mod Ending

@@ -1,7 +1,7 @@
 ghost use Rattle.std.specs.Prelude.{◌≡◌, ◌≤◌, [], length};
 ghost use Rattle.ldp_cli.specs.Ending.{ending_status, ending_text, ending_line};
 
-use ldp_answer::{Line, Refusal, Role};
+use ldp_message::{Line, Refusal, Role};
 
 /// How a run ends.
 #[derive(Clone, Copy, Debug, PartialEq, Eq)]

@@ -2,7 +2,7 @@ ghost use Rattle.std.specs.Prelude.{◌≡◌, IfErr, IfSome, map, string_bytes}
 ghost use Rattle.ldp_cli.specs.Files.{ServesFrom, Gives, StopsIn};
 ghost use Rattle.ldp_cli.specs.Eval.{EvalRequest, eval_request, eval_files, eval_answer};
 
-use crate::files::take_heights;
+use crate::inputs::take_heights;
 use crate::stop::Stop;
 use ldp_answer::{Answer, Central, eval_over};
 use ldp_io::Shelf;

@@ -4,14 +4,17 @@
 mod commands;
 mod ending;
 mod eval;
-mod files;
+mod hashed;
+mod inputs;
 mod limits;
 mod pieces;
+mod problem_files;
 mod run;
 mod stop;
 mod take_file;
 #[cfg(test)]
 mod tests;
+mod texts;
 mod write_all;
 
 use ldp_io::{FileShelf, StreamSink};

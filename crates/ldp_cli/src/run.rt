@@ -10,8 +10,9 @@ use crate::commands::{answer, request_of};
 use crate::ending::Ending;
 use crate::stop::Stop;
 use crate::write_all::{End, write_all};
-use ldp_answer::{Answer, Role};
+use ldp_answer::Answer;
 use ldp_io::{Shelf, Sink};
+use ldp_message::Role;
 use std::alloc::Global;
 
 /// Carries out the command of the words after the program's name, and answers its status.

@@ -1,4 +1,5 @@
-use ldp_answer::{Refusal, Role, WorkFault};
+use ldp_answer::WorkFault;
+use ldp_message::{Refusal, Role};
 use std::alloc::AllocError;
 
 /// Why a command that takes files stops before it has an answer.

@@ -23,6 +23,7 @@ const MOST_FAMILIES: usize = 16;
 #[tactic(auto, unfolding(crate::specs::Reading::grids_of))]
 pub fn read_grids(alloc: Global, text: &[u8]) -> Result<Grids, GridFault>
     ensures exact { result ≢ Err GridFault.Memory → result ≡ grids_of text.now }
+    ensures some { IfOk result (λ grids. 1 ≤ length grids) }
 {
     let top = read_document(alloc, skip_mark(text))?;
     let tables = tables_of(&top)?;
@@ -49,6 +50,7 @@ fn tables_of(top: &Table) -> Result<&[Value], GridFault>
     ensures value { result_map_both (λ values. map view values.now) (λ fault. fault) result
         ≡ tables_of (table_view top.now) }
     ensures few { IfOk result (λ values. length values.now ≤ 16) }
+    ensures some { IfOk result (λ values. 1 ≤ length values.now) }
 {
     if !has_top_keys(top) {
         return Err(GridFault::UnknownKey {
@@ -79,6 +81,7 @@ fn few_tables(values: &[Value]) -> Result<&[Value], GridFault>
     ensures value { result_map_both (λ values. map view values.now) (λ fault. fault) result
         ≡ few_tables (map view values.now) }
     ensures few { IfOk result (λ values. length values.now ≤ 16) }
+    ensures some { IfOk result (λ values. 1 ≤ length values.now) }
 {
     if values.is_empty() || !are_tables(values) {
         return Err(GridFault::NoFamily);
@@ -107,6 +110,7 @@ fn all_tables(values: &[Value]) -> bool
 fn read_families(alloc: Global, tables: &[Value]) -> Result<Grids, GridFault>
     requires { length tables.now ≤ 16 }
     ensures exact { result ≢ Err GridFault.Memory → result ≡ families_from 1 (map view tables.now) }
+    ensures count { IfOk result (λ grids. length grids ≡ length tables.now) }
 {
     let mut grids = Grids::new(alloc);
     for value in tables {

@@ -1,6 +1,6 @@
 -- The canonical forest: a box is split exactly where its bound is at most the least cost. (Own
 -- choice of this project.)
-use Rattle.std.specs.Prelude.{ℕ, zero, suc, Bool, false, ◌||◌, List, [], ◌∷◌, ◌++◌, flat_map, Option, None, Some, if◌then◌else◌}
+use Rattle.std.specs.Prelude.{ℕ, zero, suc, Bool, false, ◌||◌, List, [], ◌∷◌, ◌++◌, flat_map, take, Option, None, Some, if◌then◌else◌}
 use Rattle.std.specs.List.{enumerate_from}
 use Rattle.ldp_design.specs.declared.axis.AxisName.{AxisName}
 use Rattle.ldp_design.specs.declared.family.Family.{Family}
@@ -50,6 +50,10 @@ tree_of p w b = tree_within p w (size b) b
 -- the tree of a family under its number
 abbrev pub family_tree : Problem → ℕ × Family → List Node
 family_tree p (number, f) = Tree number ∷ tree_of p (least p) (whole_box number f)
+
+-- the trees of the first families
+abbrev pub first_trees : Problem → ℕ → List Node
+first_trees p count = flat_map (family_tree p) (take count (enumerate_from 1 p.families))
 
 -- the canonical forest: a tree for each family in order
 unfoldable pub forest : Problem → List Node

@@ -1,2 +1,4 @@
 pub mod Best
 pub mod Forest
+pub mod Laws
+pub mod Trees

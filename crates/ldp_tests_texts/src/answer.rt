@@ -1,5 +1,6 @@
-use ldp_answer::{Answer, Central, Line, Refusal, WorkFault, eval_over};
+use ldp_answer::{Answer, Central, WorkFault, eval_over};
 use ldp_heights::read_heights;
+use ldp_message::{Line, Refusal};
 use std::alloc::Global;
 use std::test::Fail;
 

@@ -1,0 +1,75 @@
+ghost use Rattle.std.specs.Prelude.{◌≡◌, ◌<◌, IsTrue, Ok, Err, IfOk, IfErr, IfSome};
+ghost use Rattle.sha2.specs.Sha256.{sha256};
+ghost use Rattle.ldp_io.specs.Count.{Later};
+ghost use Rattle.ldp_cli.specs.Readings.{short_text};
+ghost use Rattle.ldp_cli.specs.Files.{Gives, StopsAt};
+
+use crate::hashed::{Digested, Hashed};
+use crate::stop::Stop;
+use crate::take_file::{FileFault, take_file};
+use ldp_io::Shelf;
+use ldp_message::{Refusal, Role};
+use std::alloc::Global;
+
+/// The most bytes of a file.
+const MOST_BYTES: usize = 128_000_000;
+
+/// The bytes of a file that is short enough.
+pub fn take_bytes<H: Shelf>(
+    alloc: Global,
+    shelf: &mut H,
+    place: u8,
+    role: Role,
+    name: &str,
+) -> Result<Vec<u8>, Stop>
+    requires place { place < 4 }
+    requires served { IsTrue (H.serves shelf.old place name.now) }
+    ensures bytes { IfOk result (λ text. IfSome (H.files shelf.old)
+        (λ files. short_text role (files name.now) ≡ Ok text.items)) }
+    ensures told { IfErr result (λ stop. IfSome (H.files shelf.old)
+        (λ files. Gives (Err stop) (short_text role (files name.now)))) }
+    ensures stops { IfErr result (λ stop.
+        StopsAt place role stop (H.faults shelf.old) (H.faults shelf.new)) }
+    ensures files { H.files shelf.new ≡ H.files shelf.old }
+    ensures serves { H.serves shelf.new ≡ H.serves shelf.old }
+    ensures later { Later (H.faults shelf.old) (H.faults shelf.new) }
+{
+    let mut text = Vec::new(alloc);
+    match take_file(shelf, place, name, MOST_BYTES, &mut text) {
+        Ok(()) => Ok(text),
+        Err(FileFault::TooLong) => Err(Stop::Refused(Refusal::TooLong(role))),
+        Err(FileFault::Failed) => Err(Stop::Unread { place, role }),
+        Err(FileFault::Memory) => Err(Stop::Memory),
+    }
+}
+
+/// The bytes of a file that is short enough, with their hash.
+pub fn take_hashed<H: Shelf>(
+    alloc: Global,
+    shelf: &mut H,
+    place: u8,
+    role: Role,
+    name: &str,
+) -> Result<Digested<Vec<u8>>, Stop>
+    requires place { place < 4 }
+    requires served { IsTrue (H.serves shelf.old place name.now) }
+    ensures bytes { IfOk result (λ file. IfSome (H.files shelf.old)
+        (λ files. short_text role (files name.now) ≡ Ok file.of.items)) }
+    ensures hash { IfOk result (λ file. IfSome (H.files shelf.old)
+        (λ files. file.hash ≡ sha256 file.of.items)) }
+    ensures told { IfErr result (λ stop. IfSome (H.files shelf.old)
+        (λ files. Gives (Err stop) (short_text role (files name.now)))) }
+    ensures stops { IfErr result (λ stop.
+        StopsAt place role stop (H.faults shelf.old) (H.faults shelf.new)) }
+    ensures files { H.files shelf.new ≡ H.files shelf.old }
+    ensures serves { H.serves shelf.new ≡ H.serves shelf.old }
+    ensures later { Later (H.faults shelf.old) (H.faults shelf.new) }
+{
+    let mut text = Hashed::over(Vec::new(alloc));
+    match take_file(shelf, place, name, MOST_BYTES, &mut text) {
+        Ok(()) => Ok(text.finish()),
+        Err(FileFault::TooLong) => Err(Stop::Refused(Refusal::TooLong(role))),
+        Err(FileFault::Failed) => Err(Stop::Unread { place, role }),
+        Err(FileFault::Memory) => Err(Stop::Memory),
+    }
+}

@@ -1,0 +1,7 @@
+pub mod Role
+pub mod HeightFault
+pub mod ZoneFault
+pub mod GridFault
+pub mod JobFault
+pub mod CellsFault
+pub mod Refusal

@@ -1,0 +1,6 @@
+pub mod Listed
+pub mod Members
+pub mod Order
+pub mod Bests
+pub mod Trees
+pub mod Forests

@@ -1,0 +1,15 @@
+use Rattle.ldp_optimum.proofs.Bests.{usable_ranked, ranked_usable}
+use Rattle.ldp_optimum.proofs.Order.{ranked_total, same_ranked}
+use Rattle.ldp_optimum.proofs.laws.ranks.Goals as goal
+
+pub returns-clause-usable : goal.returns-clause-usable
+returns-clause-usable c = usable_ranked
+
+pub returns-clause-ranked : goal.returns-clause-ranked
+returns-clause-ranked c = ranked_usable
+
+pub returns-clause-ordered : goal.returns-clause-ordered
+returns-clause-ordered c = ranked_total
+
+pub returns-clause-distinct : goal.returns-clause-distinct
+returns-clause-distinct c = same_ranked

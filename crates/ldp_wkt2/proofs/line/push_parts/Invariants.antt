@@ -1,0 +1,7 @@
+use Rattle.std.proofs.Common.{◌≡◌, ◌++◌, take}
+use Rattle.std.specs.List.{flat_map}
+use Rattle.ldp_wkt2.proofs.line.push_parts.Given as goal
+
+abbrev pub invariant-loop-part : goal.invariant-loop-part
+invariant-loop-part l =
+    l.text ≡ l.fn.text ++ flat_map (λ part. part.now) (take l.part-index l.parts)

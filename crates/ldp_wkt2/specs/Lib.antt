@@ -1,0 +1,5 @@
+pub mod Profile
+pub mod Values
+pub mod Lines
+pub mod Reading
+pub mod Fronts
