@@ -1,6 +1,7 @@
 pub mod Axes
 pub mod Between
 pub mod Cuts
+pub mod Ranged
 pub mod Shapes
 pub mod Splits
 pub mod Valid

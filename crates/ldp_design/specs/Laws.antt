@@ -1,12 +1,12 @@
 -- The laws of designs, boxes and their inputs.
-use Rattle.std.specs.Prelude.{◌≡◌, ℕ, ◌↔◌, List, None, Some}
+use Rattle.std.specs.Prelude.{◌≡◌, ◌<◌, ◌≤◌, ℕ, ◌↔◌, List, None, Some}
 use Rattle.ldp_design.specs.declared.axis.AxisName.{AxisName}
 use Rattle.ldp_design.specs.declared.family.Family.{Family}
 use Rattle.ldp_design.specs.declared.design.Design.{Design}
 use Rattle.ldp_design.specs.declared.design_box.DesignBox.{DesignBox}
 use Rattle.ldp_design.specs.declared.inputs.Inputs4.{Inputs4}
-use Rattle.ldp_design.specs.Families.{AreGrids}
-use Rattle.ldp_design.specs.Designs.{IsAdmitted}
+use Rattle.ldp_design.specs.Families.{AreGrids, family_of, value_at}
+use Rattle.ldp_design.specs.Designs.{IsAdmitted, IsValueOn, axis_of}
 use Rattle.ldp_design.specs.Boxes.{LiesIn, IsIn, IsSingle, IsWhole, whole_of, first_of, last_of}
 use Rattle.ldp_design.specs.Splits.{IsCut, AreParts, parts_at, cut_for}
 use Rattle.ldp_design.specs.Inputs.{box_inputs, HaveBetween}
@@ -49,3 +49,16 @@ abbrev pub InputsLieBetween : Type 0
 InputsLieBetween = (families : List Family) (b : DesignBox) (low high : Inputs4)
     → AreGrids families → LiesIn families b → box_inputs families b ≡ Some (low, high)
     → HaveBetween families b low high
+
+-- What is so of a family that has a number: at most 16 have one, no axis has more than 100,000
+-- values, and each value is in the range of the axis.
+pub record IsInRange (number : ℕ) (f : Family) : Type 0 where
+  pub some : 1 ≤ number
+  pub few : number ≤ 16
+  pub counts : (axis : AxisName) → (axis_of axis f).count ≤ 100_000
+  pub values : (axis : AxisName) (i : ℕ) → i < (axis_of axis f).count
+      → IsValueOn axis (value_at (axis_of axis f) i)
+
+abbrev pub FamiliesAreInRange : Type 0
+FamiliesAreInRange = (families : List Family) (number : ℕ) (f : Family)
+    → AreGrids families → family_of families number ≡ Some f → IsInRange number f

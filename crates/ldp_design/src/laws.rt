@@ -1,6 +1,7 @@
 //! The laws of designs and boxes, for all of them at once.
 ghost use Rattle.ldp_design.specs.Shapes.{ShapesAreForests};
 ghost use Rattle.ldp_design.specs.Laws.{WholesHold, BoxesAreAdmitted, SinglesHaveOne, CutsPart, SplitsCut, SinglesEnd, InputsLieBetween};
+ghost use Rattle.ldp_design.specs.Laws.{FamiliesAreInRange};
 
 /// The whole of a family lies in it and has all its admissible designs.
 pub fn wholes()
@@ -40,4 +41,9 @@ pub fn inputs()
 /// A list of entries is well shaped exactly where it is trees one after the other.
 pub fn shapes()
     ensures { ShapesAreForests }
+{}
+
+/// The counts and the values of a family are in range.
+pub fn ranges()
+    ensures { FamiliesAreInRange }
 {}
