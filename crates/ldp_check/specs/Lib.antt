@@ -1,0 +1,5 @@
+pub mod Reports
+pub mod Inputs
+pub mod Printed
+pub mod Entries
+pub mod Verdicts
