@@ -1,5 +1,7 @@
 -- A walk along the nodes of a box finds no fault in them.
-use Rattle.std.proofs.Common.{◌≡◌, ◌≤◌, ◌<◌, ◌+◌, ℕ, zero, suc, pos, Bool, true, false, cond, not, ltb, ◌&&◌, ◌||◌, ◌==◌, List, [], ◌∷◌, ◌++◌, append_assoc, length, Option, None, Some, refl, sym, ap, subst, ◌∙◌, arith}
+use Rattle.std.proofs.Common.{◌≡◌, ◌≤◌, ◌+◌, ℕ, pos, Bool, true, false, cond, not, ◌&&◌, ◌||◌}
+use Rattle.std.proofs.Common.{◌==◌, List, ◌∷◌, ◌++◌, append_assoc, Option, None, Some, refl, sym}
+use Rattle.std.proofs.Common.{ap, subst, ◌∙◌, arith}
 use Rattle.std.proofs.lemmas.Bool.Decides.{nat_tests}
 use Rattle.std.proofs.lemmas.Bool.{lt-ltb, le-leb}
 use Rattle.std.specs.Prelude.{is_none, nat_lt, nat_le}
@@ -11,25 +13,27 @@ use Rattle.ldp_design.specs.declared.family.Family.{Family}
 use Rattle.ldp_design.specs.declared.design.Design.{Design}
 use Rattle.ldp_design.specs.declared.design_box.DesignBox.{DesignBox}
 use Rattle.ldp_design.specs.declared.node.Node.{Node}
-use Rattle.ldp_design.specs.declared.node.Node.TheVariants.{Split, Leaf, Unusable}
 use Rattle.ldp_design.specs.Families.{AreGrids}
 use Rattle.ldp_design.specs.Designs.{index_of, IsAdmitted}
-use Rattle.ldp_design.specs.Boxes.{span_of, is_single, IsIn, IsSingle, IsBoxOf, LiesIn, first_of}
-use Rattle.ldp_design.specs.Splits.{cut_for, parts_at, IsCut, AreParts}
-use Rattle.ldp_design.specs.Forests.{Place}
+use Rattle.ldp_design.specs.Boxes.{span_of, is_single, IsIn, IsSingle, LiesIn, first_of}
+use Rattle.ldp_design.specs.Splits.{parts_at, IsCut}
 use Rattle.ldp_design.proofs.Cuts.{cuts_part}
-use Rattle.ldp_design.proofs.Splits.{splits_cut, singles_end}
+use Rattle.ldp_design.proofs.Splits.{splits_cut}
 use Rattle.ldp_design.proofs.Wholes.{boxes_are_admitted}
 use Rattle.ldp_problem.specs.declared.pair.Pair.{Pair}
 use Rattle.ldp_problem.specs.Problem.{Problem, IsSound}
 use Rattle.ldp_problem.specs.Pairs.{is_smaller, AtMost}
-use Rattle.ldp_problem.specs.Costs.{IsUsable, first_undefined, cost, bound, bound_cell, unusable_at, beyond, lows}
-use Rattle.ldp_problem.proofs.Facts.{none_undefined, first_undefined_is, single_exact, bound_at_cell}
+use Rattle.ldp_problem.specs.Costs.{IsUsable, first_undefined, cost, bound, bound_cell}
+use Rattle.ldp_problem.specs.Costs.{unusable_at, beyond, lows}
+use Rattle.ldp_problem.proofs.Facts.{none_undefined, first_undefined_is, single_exact}
+use Rattle.ldp_problem.proofs.Facts.{bound_at_cell}
 use Rattle.ldp_optimum.specs.Forest.{is_above}
 use Rattle.ldp_optimum.specs.Trees.{IsTreeOf, undefined, closed, parted}
 use Rattle.ldp_check.specs.declared.reason.Reason.{Reason}
-use Rattle.ldp_check.specs.declared.reason.Reason.TheVariants.{BadSplit, NoSuchCell, LeafOpen, ShareOpen, NotUnusable}
-use Rattle.ldp_check.specs.Entries.{split_fault, leaf_pair, open_fault, leaf_fault, unusable_fault, first_fault}
+use Rattle.ldp_check.specs.declared.reason.Reason.TheVariants.{BadSplit, NoSuchCell, LeafOpen}
+use Rattle.ldp_check.specs.declared.reason.Reason.TheVariants.{ShareOpen, NotUnusable}
+use Rattle.ldp_check.specs.Entries.{split_fault, leaf_pair, open_fault, leaf_fault, unusable_fault}
+use Rattle.ldp_check.specs.Entries.{first_fault}
 
 -- no fault from this place on, whatever the line
 unfoldable pub NoFault : Problem → Pair → List Node → ℕ → List DesignBox → Type 0
@@ -92,7 +96,8 @@ single_of b t =
     }
 
 -- an entry `Unusable`
-sound_unusable : (p : Problem) (w : Pair) (line cell : ℕ) (b : DesignBox) → unusable_at p b ≡ Some cell
+sound_unusable : (p : Problem) (w : Pair) (line cell : ℕ) (b : DesignBox)
+    → unusable_at p b ≡ Some cell
     → unusable_fault p line cell b ≡ None
 sound_unusable p w line cell b u =
     let single = single_when p b cell u in
@@ -108,11 +113,14 @@ smaller_at_most : (a b : Pair) → is_smaller a b ≡ true → AtMost a b
 smaller_at_most a b h = grind (arith, nat_tests)
 
 -- a closed box shows at least the least cost
-closed_shows : (p : Problem) (w : Pair) (b : DesignBox) → IsSound p → IsLeast p w → LiesIn p.families b
-    → unusable_at p b ≡ None → (is_single b || is_above (bound p b) (Some w)) ≡ true → AtMost w (bound p b)
+closed_shows : (p : Problem) (w : Pair) (b : DesignBox) → IsSound p → IsLeast p w
+    → LiesIn p.families b
+    → unusable_at p b ≡ None → (is_single b || is_above (bound p b) (Some w)) ≡ true
+    → AtMost w (bound p b)
 closed_shows p w b sound l h u t = by_test (is_single b) refl t
   where
-    by_test : (s : Bool) → is_single b ≡ s → (s || is_above (bound p b) (Some w)) ≡ true → AtMost w (bound p b)
+    by_test : (s : Bool) → is_single b ≡ s → (s || is_above (bound p b) (Some w)) ≡ true
+        → AtMost w (bound p b)
     by_test false s above = smaller_at_most w (bound p b) above
     by_test true s any =
         let same = single_exact p b sound h (single_of b s) in
@@ -120,10 +128,10 @@ closed_shows p w b sound l h u t = by_test (is_single b) refl t
         (l.least (first_of b) (boxes_are_admitted p.families b (first_of b) h (first_in p.families b h))
         (none_undefined p (first_of b) (usable_when p b s u)))
 
-
 -- an entry `Leaf` at the cell of the bound
 not_open : (tolerance : Option ℕ) (w shown : Pair) (line : ℕ) → (tolerance ≡ None → w.over ≡ 0)
-    → (tolerance ≡ None → shown.over ≡ 0) → AtMost w shown → open_fault tolerance w line shown ≡ None
+    → (tolerance ≡ None → shown.over ≡ 0) → AtMost w shown
+    → open_fault tolerance w line shown ≡ None
 not_open None w shown line e f h = no_fault (nat_lt shown.value w.value) (not_less w shown (e refl) (f refl) h)
   where
     not_less : (a b : Pair) → a.over ≡ 0 → b.over ≡ 0 → AtMost a b → nat_lt b.value a.value ≡ false
@@ -133,14 +141,17 @@ not_open None w shown line e f h = no_fault (nat_lt shown.value w.value) (not_le
     no_fault t e = rw e refl
 not_open (Some t) w shown line e f h = no_fault (is_smaller shown w) h
   where
-    no_fault : (t : Bool) → t ≡ false → then_some t (ShareOpen line shown.over (pos shown.value)) ≡ None
+    no_fault : (t : Bool) → t ≡ false
+        → then_some t (ShareOpen line shown.over (pos shown.value)) ≡ None
     no_fault t e = rw e refl
 
-none_beyond : (tolerance : Option ℕ) (values : List ℕ) → tolerance ≡ None → beyond tolerance values ≡ 0
+none_beyond : (tolerance : Option ℕ) (values : List ℕ) → tolerance ≡ None
+    → beyond tolerance values ≡ 0
 none_beyond None values e = refl
 none_beyond (Some t) values e = absurd cc
 
-sound_leaf : (p : Problem) (w : Pair) (line : ℕ) (b : DesignBox) → IsSound p → IsLeast p w → LiesIn p.families b
+sound_leaf : (p : Problem) (w : Pair) (line : ℕ) (b : DesignBox) → IsSound p → IsLeast p w
+    → LiesIn p.families b
     → AtMost w (bound p b) → leaf_fault p w line (bound_cell p b) b ≡ None
 sound_leaf p w line b sound l h most =
     let cell = bound_at_cell p b sound.some_cell in
@@ -166,7 +177,8 @@ first_none {o = o} {q = q} e f = rw (e, f) refl
 
 -- the nodes of a box, and then the others
 pub walked : (p : Problem) (w : Pair) (b : DesignBox) (nodes entries : List Node) (trees : ℕ) (boxes : List DesignBox)
-    → IsSound p → AreGrids p.families → IsLeast p w → LiesIn p.families b → IsTreeOf p (Some w) b nodes
+    → IsSound p → AreGrids p.families → IsLeast p w → LiesIn p.families b
+    → IsTreeOf p (Some w) b nodes
     → NoFault p w entries trees boxes → NoFault p w (nodes ++ entries) trees (b ∷ boxes)
 unfolding NoFault
 walked p w _ _ entries trees boxes sound g l h (undefined b cell u) later line =

@@ -1,4 +1,5 @@
-use Rattle.ldp_optimum.proofs.Forests.{next_tree, next_tree_counts, all_trees, first_trees_count, forest_is_shaped}
+use Rattle.ldp_optimum.proofs.Forests.{next_tree, next_tree_counts, all_trees, first_trees_count}
+use Rattle.ldp_optimum.proofs.Forests.{forest_is_shaped}
 use Rattle.ldp_optimum.proofs.Sizes.{forest_has_nodes}
 use Rattle.ldp_optimum.proofs.laws.forests.Goals as goal
 
