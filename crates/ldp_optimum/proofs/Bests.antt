@@ -1,5 +1,6 @@
 -- The best of the ranked designs.
-use Rattle.std.proofs.Common.{◌≡◌, ℕ, Bool, true, false, cond, List, [], ◌∷◌, Option, None, Some, refl, sym, ap, subst, ◌∙◌, inl, inr}
+use Rattle.std.proofs.Common.{◌≡◌, ℕ, Bool, true, false, cond, List, [], ◌∷◌, Option, None, Some}
+use Rattle.std.proofs.Common.{refl, sym, ap, subst, ◌∙◌, inl, inr}
 use Rattle.std.proofs.lemmas.Cmp.{tied_itself}
 use Rattle.std.specs.Prelude.{filter_map}
 use Rattle.std.specs.Option.{is_none}
@@ -20,17 +21,20 @@ use Rattle.ldp_optimum.proofs.Listed.{admitted_listed, listed_admitted}
 use Rattle.ldp_optimum.proofs.Order.{better_weak, not_better_itself, pair_total, same_ranked}
 
 -- ranks
-pub usable_ranked : (p : Problem) (d : Design) → IsUsable p d → rank p d ≡ Some record { design = d; cost = cost p d }
+pub usable_ranked : (p : Problem) (d : Design) → IsUsable p d
+    → rank p d ≡ Some record { design = d; cost = cost p d }
 usable_ranked p d usable = ranked_at (first_undefined p d) (usable_has_none p d usable)
   where
-    ranked_at : (o : Option ℕ) → o ≡ None → cond {A = Option Ranked} (is_none o) (Some record { design = d; cost = cost p d }) None ≡ Some record { design = d; cost = cost p d }
+    ranked_at : (o : Option ℕ) → o ≡ None
+        → cond {A = Option Ranked} (is_none o) (Some record { design = d; cost = cost p d }) None ≡ Some record { design = d; cost = cost p d }
     ranked_at None e = refl
     ranked_at (Some c) e = absurd cc
 
 pub ranked_usable : (p : Problem) (d : Design) (x : Ranked) → rank p d ≡ Some x → IsRankOf p d x
 ranked_usable p d x e = ranked_at (first_undefined p d) refl e
   where
-    ranked_at : (o : Option ℕ) → first_undefined p d ≡ o → cond {A = Option Ranked} (is_none o) (Some record { design = d; cost = cost p d }) None ≡ Some x → IsRankOf p d x
+    ranked_at : (o : Option ℕ) → first_undefined p d ≡ o
+        → cond {A = Option Ranked} (is_none o) (Some record { design = d; cost = cost p d }) None ≡ Some x → IsRankOf p d x
     ranked_at None u h =
         let same : record { design = d; cost = cost p d } ≡ x = cc in
         record { usable = none_undefined p d u; design = ap (λ r. r.design) (sym same); cost = ap (λ r. r.cost) (sym same) }
@@ -108,7 +112,8 @@ best_reduced p = refl
 pub best_ranked : (p : Problem) (x : Ranked) → best p ≡ Some x → IsRanked p x
 best_ranked p x e = listed_ranked p x (reduced_within (ranked_of p) x (sym (best_reduced p) ∙ e))
 
-pub best_beats : (p : Problem) (x y : Ranked) → best p ≡ Some x → IsRanked p y → is_better y x ≡ false
+pub best_beats : (p : Problem) (x y : Ranked) → best p ≡ Some x → IsRanked p y
+    → is_better y x ≡ false
 best_beats p x y e r = reduced_unbeaten (ranked_of p) x y (sym (best_reduced p) ∙ e) (ranked_listed p y r)
 
 admitted_ranked : (p : Problem) (d : Design) → IsAdmitted p.families d → IsUsable p d
@@ -158,7 +163,8 @@ unbeaten_best p x r unbeaten = by_best (best p) refl
     by_best (Some z) e =
         e ∙ ap Some (same_ranked z x (unbeaten z (best_ranked p z e)) (best_beats p z x e r))
 
-pub none_usable_no_best : (p : Problem) → ((d : Design) → IsAdmitted p.families d → IsUsable p d → ⊥)
+pub none_usable_no_best : (p : Problem)
+    → ((d : Design) → IsAdmitted p.families d → IsUsable p d → ⊥)
     → best p ≡ None
 none_usable_no_best p none = by_best (best p) refl
   where

@@ -1,5 +1,7 @@
 -- The canonical forest, tree by tree.
-use Rattle.std.proofs.Common.{◌≡◌, ◌≤◌, ◌+◌, ℕ, zero, suc, true, cond, List, [], ◌∷◌, ◌++◌, length, take, Option, None, Some, refl, sym, ap, subst, ◌∙◌, inl, inr, arith, append_assoc}
+use Rattle.std.proofs.Common.{◌≡◌, ◌≤◌, ◌+◌, ℕ, zero, suc, true, cond, List, [], ◌∷◌, ◌++◌, length}
+use Rattle.std.proofs.Common.{take, Option, None, Some, refl, sym, ap, subst, ◌∙◌, inl, inr, arith}
+use Rattle.std.proofs.Common.{append_assoc}
 use Rattle.std.proofs.lemmas.List.Sums.{sum_by-cons, sum_by-append}
 use Rattle.std.specs.Prelude.{flat_map, slice_get, option_map}
 use Rattle.std.specs.List.{enumerate_from}
@@ -19,6 +21,13 @@ use Rattle.ldp_optimum.specs.Forest.{tree_of, family_tree, first_trees, forest, 
 use Rattle.ldp_optimum.proofs.Members.{Member, of_enumerate}
 use Rattle.ldp_optimum.proofs.Trees.{trees_are_trees, complete}
 
+same_numbered : (m n : ℕ) (f g : Family) → m ≡ n → f ≡ g → ◌≡◌ {A = ℕ × Family} (m, f) (n, g)
+same_numbered m n f g e h = cc
+
+-- the family after so many of them, under a number
+abbrev Continues : ℕ → List (ℕ × Family) → Family → ℕ → Type 0
+Continues k qs f number = take (suc k) qs ≡ take k qs ++ (number, f) ∷ []
+
 -- one more of the numbered families
 take_numbered : (n k : ℕ) (fs : List Family) (f : Family) → slice_get fs k ≡ Some f
     → take (suc k) (enumerate_from n fs) ≡ take k (enumerate_from n fs) ++ (n + k, f) ∷ []
@@ -26,11 +35,13 @@ take_numbered n k [] f e = absurd cc
 take_numbered n zero (g ∷ fs) f e =
     let number : n ≡ n + 0 = omega arith in
     let family : g ≡ f = cc in
-    ap (λ i. (i, g) ∷ []) number ∙ ap (λ h. (n + 0, h) ∷ []) family
+    ap (λ q. q ∷ []) (same_numbered n (n + 0) g f number family)
 take_numbered n (suc k) (g ∷ fs) f e =
     let number : n + 1 + k ≡ n + suc k = omega arith in
-    ap (λ rest. (n, g) ∷ rest) (take_numbered (n + 1) k fs f e)
-    ∙ ap (λ i. (n, g) ∷ (take k (enumerate_from (n + 1) fs) ++ (i, f) ∷ [])) number
+    let later : take (suc k) (enumerate_from (n + 1) fs)
+    ≡ take k (enumerate_from (n + 1) fs) ++ (n + suc k, f) ∷ [] =
+    subst (Continues k (enumerate_from (n + 1) fs) f) number (take_numbered (n + 1) k fs f e) in
+    ap (λ qs. (n, g) ∷ qs) later
 
 trees_append : (p : Problem) (qs rs : List (ℕ × Family))
     → flat_map (family_tree p) (qs ++ rs) ≡ flat_map (family_tree p) qs ++ flat_map (family_tree p) rs
@@ -49,16 +60,19 @@ record HasWhole (p : Problem) (count : ℕ) (whole : DesignBox) : Type 0 where
   stands : slice_get p.families count ≡ Some family
   is : whole_box (suc count) family ≡ whole
 
-has_whole : (p : Problem) (count : ℕ) (whole : DesignBox) → whole_of p.families (suc count) ≡ Some whole
+has_whole : (p : Problem) (count : ℕ) (whole : DesignBox)
+    → whole_of p.families (suc count) ≡ Some whole
     → HasWhole p count whole
 has_whole p count whole e = by_family (slice_get p.families count) refl e
   where
-    by_family : (o : Option Family) → slice_get p.families count ≡ o → option_map (whole_box (suc count)) o ≡ Some whole
+    by_family : (o : Option Family) → slice_get p.families count ≡ o
+        → option_map (whole_box (suc count)) o ≡ Some whole
         → HasWhole p count whole
     by_family None h k = absurd cc
     by_family (Some f) h k = record { family = f; stands = h; is = cc }
 
-pub next_tree : (p : Problem) (count : ℕ) (whole : DesignBox) → whole_of p.families (suc count) ≡ Some whole
+pub next_tree : (p : Problem) (count : ℕ) (whole : DesignBox)
+    → whole_of p.families (suc count) ≡ Some whole
     → first_trees p (suc count) ≡ first_trees p count ++ Tree (suc count) ∷ tree_of p (least p) whole
 next_tree p count whole e =
     let has = has_whole p count whole e in
@@ -69,20 +83,22 @@ next_tree p count whole e =
     ∙ ap (λ n. first_trees p count ++ family_tree p (n, has.family)) number
     ∙ ap (λ b. first_trees p count ++ Tree (suc count) ∷ tree_of p (least p) b) has.is
 
-nodes_append : (xs ys : List Node) → node_count (xs ++ ys) ≡ node_count xs + node_count ys
+pub nodes_append : (xs ys : List Node) → node_count (xs ++ ys) ≡ node_count xs + node_count ys
 nodes_append xs ys = sum_by-append (λ x. cond (is_node x) 1 0) xs ys
 
-nodes_tree : (number : ℕ) (xs : List Node) → node_count (Tree number ∷ xs) ≡ node_count xs
+pub nodes_tree : (number : ℕ) (xs : List Node) → node_count (Tree number ∷ xs) ≡ node_count xs
 nodes_tree number xs = omega (arith, sum_by-cons (λ x. cond (is_node x) 1 0) (Tree number) xs)
 
-pub next_tree_counts : (p : Problem) (count : ℕ) (whole : DesignBox) → whole_of p.families (suc count) ≡ Some whole
+pub next_tree_counts : (p : Problem) (count : ℕ) (whole : DesignBox)
+    → whole_of p.families (suc count) ≡ Some whole
     → node_count (first_trees p (suc count)) ≡ node_count (first_trees p count) + node_count (tree_of p (least p) whole)
 next_tree_counts p count whole e =
     ap node_count (next_tree p count whole e)
     ∙ nodes_append (first_trees p count) (Tree (suc count) ∷ tree_of p (least p) whole)
     ∙ ap (λ n. node_count (first_trees p count) + n) (nodes_tree (suc count) (tree_of p (least p) whole))
 
-take_whole : (n : ℕ) (fs : List Family) → take (length fs) (enumerate_from n fs) ≡ enumerate_from n fs
+take_whole : (n : ℕ) (fs : List Family)
+    → take (length fs) (enumerate_from n fs) ≡ enumerate_from n fs
 take_whole n [] = refl
 take_whole n (f ∷ fs) = ap (λ rest. (n, f) ∷ rest) (take_whole (n + 1) fs)
 
@@ -110,7 +126,8 @@ first_trees_count p count = fewer p count (enumerate_from 1 p.families)
 AreWholes : Problem → List (ℕ × Family) → Type 0
 AreWholes p qs = (q : ℕ × Family) → Member q qs → LiesIn p.families (whole_box q.0 q.1)
 
-numbered_whole : (p : Problem) (q : ℕ × Family) → AreGrids p.families → Member q (enumerate_from 1 p.families)
+pub numbered_whole : (p : Problem) (q : ℕ × Family) → AreGrids p.families
+    → Member q (enumerate_from 1 p.families)
     → IsWhole p.families q.0 (whole_box q.0 q.1)
 numbered_whole p q g m =
     let at = of_enumerate 1 q p.families m in

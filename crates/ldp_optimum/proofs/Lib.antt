@@ -4,3 +4,4 @@ pub mod Order
 pub mod Bests
 pub mod Trees
 pub mod Forests
+pub mod Sizes

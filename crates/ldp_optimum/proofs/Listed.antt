@@ -1,5 +1,6 @@
 -- The list of all designs has the admissible ones and no other.
-use Rattle.std.proofs.Common.{◌≡◌, ◌<◌, ◌+◌, ℕ, zero, suc, List, Some, refl, sym, ap, subst, ◌∙◌, arith}
+use Rattle.std.proofs.Common.{◌≡◌, ◌<◌, ◌+◌, ℕ, zero, suc, List, Some, refl, sym, ap, subst, ◌∙◌}
+use Rattle.std.proofs.Common.{arith}
 use Rattle.std.specs.Prelude.{slice_get}
 use Rattle.std.specs.List.{range_with_len, enumerate_from}
 use Rattle.ldp_design.specs.declared.family.Family.{Family}
@@ -7,7 +8,8 @@ use Rattle.ldp_design.specs.declared.design.Design.{Design}
 use Rattle.ldp_design.specs.Families.{family_of}
 use Rattle.ldp_design.specs.Designs.{IsDesignOf, IsAdmitted}
 use Rattle.ldp_optimum.specs.Best.{designs_of, all_designs}
-use Rattle.ldp_optimum.proofs.Members.{Member, mapped, of_map, flat_mapped, of_flat_map, ranged, of_range, numbered, of_enumerate}
+use Rattle.ldp_optimum.proofs.Members.{Member, mapped, of_map, flat_mapped, of_flat_map, ranged}
+use Rattle.ldp_optimum.proofs.Members.{of_range, numbered, of_enumerate}
 
 -- the design of a family with these indices
 at : ℕ → ℕ → ℕ → ℕ → ℕ → Design
@@ -48,7 +50,8 @@ listed_of number f d m =
       },
     )
 
-numbered_family : (families : List Family) (number : ℕ) (f : Family) → family_of families number ≡ Some f
+numbered_family : (families : List Family) (number : ℕ) (f : Family)
+    → family_of families number ≡ Some f
     → Member (number, f) (enumerate_from 1 families)
 numbered_family families zero f e = absurd cc
 numbered_family families (suc i) f e =

@@ -1,5 +1,7 @@
 -- The tree of a box.
-use Rattle.std.proofs.Common.{◌≡◌, ◌≤◌, ◌<◌, ◌+◌, ◌*◌, ℕ, zero, suc, Bool, true, false, cond, ◌||◌, ◌&&◌, ◌==◌, List, [], ◌∷◌, ◌++◌, Option, None, Some, refl, sym, ap, subst, ◌∙◌, arith}
+use Rattle.std.proofs.Common.{◌≡◌, ◌≤◌, ◌<◌, ◌+◌, ◌*◌, ℕ, zero, suc, Bool, true, false, cond, ◌||◌}
+use Rattle.std.proofs.Common.{◌&&◌, ◌==◌, List, [], ◌∷◌, ◌++◌, Option, None, Some, refl, sym, ap}
+use Rattle.std.proofs.Common.{subst, ◌∙◌, arith}
 use Rattle.std.proofs.Math.Nat.{mul-pos}
 use Rattle.std.proofs.lemmas.Bool.Decides.{nat_tests}
 use Rattle.std.proofs.lemmas.List.Sums.{sum_by-cons, sum_by-append}
@@ -28,7 +30,8 @@ unfolding size
 some_size b = mul-pos (mul-pos (mul-pos (omega arith) (omega arith)) (omega arith)) (omega arith)
 
 -- what is known of the parts of a box that is split
-pub parts_of : (families : List Family) (b : DesignBox) (axis : AxisName) (at : ℕ) → AreGrids families
+pub parts_of : (families : List Family) (b : DesignBox) (axis : AxisName) (at : ℕ)
+    → AreGrids families
     → LiesIn families b → cut_for families b ≡ Some (axis, at)
     → AreParts families b (parts_at axis at b).0 (parts_at axis at b).1
 parts_of families b axis at g h e = cuts_part families b axis at h (splits_cut families b axis at g h e)
@@ -173,7 +176,8 @@ fate_open p w b (Some (axis, at)) h s a c = splits axis at a c
 pub fate : (p : Problem) (w : Option Pair) (b : DesignBox) → LiesIn p.families b → Fate p w b
 fate p w b h = by_cell (unusable_at p b) refl
   where
-    by_above : (s t : Bool) → is_single b ≡ s → is_above (bound p b) w ≡ t → unusable_at p b ≡ None → Fate p w b
+    by_above : (s t : Bool) → is_single b ≡ s → is_above (bound p b) w ≡ t → unusable_at p b ≡ None
+        → Fate p w b
     by_above true t d e n = ends_closed n (ap (λ x. x || is_above (bound p b) w) d)
     by_above false true d e n = ends_closed n (ap (λ x. x || is_above (bound p b) w) d ∙ e)
     by_above false false d e n = fate_open p w b (cut_for p.families b) h d e refl
@@ -208,7 +212,8 @@ pub trees_are_trees : (p : Problem) (w : Option Pair) (b : DesignBox) → AreGri
 trees_are_trees p w b g h = tree_grown p w (size b) b g h (omega arith)
 
 -- a tree for a cost is a complete tree
-pub complete : (p : Problem) (w : Option Pair) (b : DesignBox) (nodes : List Node) → IsTreeOf p w b nodes → IsTree nodes
+pub complete : (p : Problem) (w : Option Pair) (b : DesignBox) (nodes : List Node)
+    → IsTreeOf p w b nodes → IsTree nodes
 complete p w _ _ (trees.undefined b cell u) = undefined cell
 complete p w _ _ (trees.closed b u t) = closed (bound_cell p b)
 complete p w _ _ (trees.parted b axis at low high a c l h) = parted axis at low high (complete p w _ low l) (complete p w _ high h)
@@ -222,7 +227,8 @@ split_counts axis at low high =
       sum_by-append (λ x. cond (is_node x) 1 0) low high,
     )
 
-pub counted : (p : Problem) (w : Option Pair) (b : DesignBox) (nodes : List Node) → AreGrids p.families → LiesIn p.families b
+pub counted : (p : Problem) (w : Option Pair) (b : DesignBox) (nodes : List Node)
+    → AreGrids p.families → LiesIn p.families b
     → IsTreeOf p w b nodes → (1 ≤ node_count nodes) × (node_count nodes + 1 ≤ 2 * size b)
 counted p w _ _ g h (trees.undefined b cell u) = (omega arith, omega (arith, some_size b))
 counted p w _ _ g h (trees.closed b u t) = (omega arith, omega (arith, some_size b))

@@ -1,5 +1,6 @@
 -- The best of the designs of a problem. (Own choice of this project.)
-use Rattle.std.specs.Prelude.{ℕ, List, map, flat_map, filter_map, Bool, Option, None, Some, option_map, if◌then◌else◌}
+use Rattle.std.specs.Prelude.{ℕ, List, map, flat_map, filter_map, Bool, Option, None, Some}
+use Rattle.std.specs.Prelude.{option_map, if◌then◌else◌}
 use Rattle.std.specs.List.{range_with_len, enumerate_from, reduce}
 use Rattle.std.specs.Option.{is_none}
 use Rattle.std.specs.Ordering.{ordering_then, is_lt}

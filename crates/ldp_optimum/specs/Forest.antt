@@ -1,6 +1,7 @@
 -- The canonical forest: a box is split exactly where its bound is at most the least cost. (Own
 -- choice of this project.)
-use Rattle.std.specs.Prelude.{ℕ, zero, suc, Bool, false, ◌||◌, List, [], ◌∷◌, ◌++◌, flat_map, take, Option, None, Some, if◌then◌else◌}
+use Rattle.std.specs.Prelude.{ℕ, zero, suc, Bool, false, ◌||◌, List, [], ◌∷◌, ◌++◌, flat_map, take}
+use Rattle.std.specs.Prelude.{Option, None, Some, if◌then◌else◌}
 use Rattle.std.specs.List.{enumerate_from}
 use Rattle.ldp_design.specs.declared.axis.AxisName.{AxisName}
 use Rattle.ldp_design.specs.declared.family.Family.{Family}
@@ -31,7 +32,8 @@ abbrev pub end_of : Problem → Option Pair → DesignBox → Option Node
 end_of p w b = end_node (unusable_at p b) (is_single b || is_above (bound p b) w) (bound_cell p b)
 
 -- the nodes of a box: its one node, or its split, the nodes of the low and those of the high part
-abbrev pub grown : Option Node → Option (AxisName × ℕ) → DesignBox → (DesignBox → List Node) → List Node
+abbrev pub grown : Option Node → Option (AxisName × ℕ) → DesignBox → (DesignBox → List Node)
+    → List Node
 grown (Some node) cut b nodes = node ∷ []
 grown None (Some (axis, at)) b nodes =
     Split axis at ∷ (nodes (parts_at axis at b).0 ++ nodes (parts_at axis at b).1)

@@ -46,11 +46,13 @@ RankedAreDistinct = (x y : Ranked) → is_better x y ≡ false → is_better y x
 -- all designs are the admissible ones
 abbrev pub AdmittedAreListed : Type 0
 AdmittedAreListed =
-    (families : List Family) (d : Design) → IsAdmitted families d → Contains (all_designs families) d
+    (families : List Family) (d : Design) → IsAdmitted families d
+    → Contains (all_designs families) d
 
 abbrev pub ListedAreAdmitted : Type 0
 ListedAreAdmitted =
-    (families : List Family) (d : Design) → Contains (all_designs families) d → IsAdmitted families d
+    (families : List Family) (d : Design) → Contains (all_designs families) d
+    → IsAdmitted families d
 
 -- the best is an admissible usable design and its cost
 pub record IsRanked (p : Problem) (x : Ranked) : Type 0 where
@@ -62,18 +64,21 @@ BestIsRanked = (p : Problem) (x : Ranked) → best p ≡ Some x → IsRanked p x
 
 -- no other is better
 abbrev pub BestIsUnbeaten : Type 0
-BestIsUnbeaten = (p : Problem) (x y : Ranked) → best p ≡ Some x → IsRanked p y → is_better y x ≡ false
+BestIsUnbeaten = (p : Problem) (x y : Ranked) → best p ≡ Some x → IsRanked p y
+    → is_better y x ≡ false
 
 -- no usable admissible design has a smaller cost
 abbrev pub BestIsLeast : Type 0
 BestIsLeast =
-    (p : Problem) (x : Ranked) (d : Design) → best p ≡ Some x → IsAdmitted p.families d → IsUsable p d
+    (p : Problem) (x : Ranked) (d : Design) → best p ≡ Some x → IsAdmitted p.families d
+    → IsUsable p d
     → AtMost x.cost (cost p d)
 
 -- none of the same cost comes earlier
 abbrev pub BestIsFirst : Type 0
 BestIsFirst =
-    (p : Problem) (x : Ranked) (d : Design) → best p ≡ Some x → IsAdmitted p.families d → IsUsable p d
+    (p : Problem) (x : Ranked) (d : Design) → best p ≡ Some x → IsAdmitted p.families d
+    → IsUsable p d
     → cost p d ≡ x.cost → is_lt (design_cmp d x.design) ≡ false
 
 -- where there is no best, no admissible design is usable

@@ -1,11 +1,12 @@
 //! What follows of the best design, of trees and of the canonical forest, for any problem.
-ghost use Rattle.ldp_optimum.specs.Laws.{UsableAreRanked, RankedAreUsable, RankedAreOrdered, RankedAreDistinct};
-ghost use Rattle.ldp_optimum.specs.Laws.{AdmittedAreListed, ListedAreAdmitted};
+ghost use Rattle.ldp_optimum.specs.Laws.{UsableAreRanked, RankedAreUsable, RankedAreOrdered};
+ghost use Rattle.ldp_optimum.specs.Laws.{RankedAreDistinct, AdmittedAreListed, ListedAreAdmitted};
 ghost use Rattle.ldp_optimum.specs.Laws.{BestIsRanked, BestIsUnbeaten, BestIsLeast, BestIsFirst};
 ghost use Rattle.ldp_optimum.specs.Laws.{NoBestNoneUsable, UnbeatenIsBest, NoneUsableNoBest};
 ghost use Rattle.ldp_optimum.specs.Laws.{TreeUnusable, TreeClosed, TreeSplit, TreesAreTrees};
 ghost use Rattle.ldp_optimum.specs.Laws.{SplitCounts, TreesHaveNodes};
-ghost use Rattle.ldp_optimum.specs.Laws.{NextTree, NextTreeCounts, AllTrees, FirstTreesCount, ForestIsShaped};
+ghost use Rattle.ldp_optimum.specs.Laws.{NextTree, NextTreeCounts, AllTrees, FirstTreesCount};
+ghost use Rattle.ldp_optimum.specs.Laws.{ForestIsShaped, ForestHasNodes};
 
 /// Usable designs are ranked by their costs.
 pub fn ranks()
@@ -57,4 +58,5 @@ pub fn forests()
     ensures all { AllTrees }
     ensures fewer { FirstTreesCount }
     ensures shape { ForestIsShaped }
+    ensures few { ForestHasNodes }
 {}

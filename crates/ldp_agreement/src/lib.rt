@@ -1,0 +1,4 @@
+//! What the search finds, the checker accepts.
+#![tactic(auto)]
+
+pub mod laws;
