@@ -65,7 +65,7 @@ tree_walked p w trees whole entries sound g l e h is later line =
     (ap (first_fault p w (line + 1) (tree_of p (least p) whole ++ entries)) (planted_at p.families trees whole is)
     ∙ nodes (line + 1))
 
-whole_at : (families : List Family) (trees : ℕ) → suc trees ≤ length families
+pub whole_at : (families : List Family) (trees : ℕ) → suc trees ≤ length families
     → (whole : DesignBox) × (whole_of families (suc trees) ≡ Some whole)
 whole_at families trees h = by_family (slice_get families trees) refl
   where

@@ -1,3 +1,6 @@
 pub mod Certificates
 pub mod Forests
 pub mod Walks
+mod Entries
+mod Sizes
+mod Texts

@@ -1,0 +1,43 @@
+-- The certificate of the best design has a text, which is read back and is short.
+use Rattle.std.specs.Prelude.{◌≡◌, ◌<◌, ◌≤◌, ℕ, length, Some, IfSome, Ok}
+use Rattle.ldp_design.specs.declared.design.Design.{Design}
+use Rattle.ldp_design.specs.Families.{AreGrids}
+use Rattle.ldp_cells.specs.Cells.{CellList}
+use Rattle.ldp_problem.specs.Problem.{Problem}
+use Rattle.ldp_job.specs.declared.names.Names.{Names}
+use Rattle.ldp_job.specs.declared.job.Job.{Job}
+use Rattle.ldp_job.specs.Values.{AreNames, IsReport, IsJob}
+use Rattle.ldp_job.specs.Texts.{job_text}
+use Rattle.ldp_job.specs.Reading.{job}
+use Rattle.ldp_optimum.specs.Best.{Ranked, best}
+use Rattle.ldp_optimum.specs.Forest.{needed}
+use Rattle.ldp_agreement.specs.Certificates.{IsCertificateOf}
+
+-- what certificates ask of a problem, so that they have a text: there is a cell, at most 200,000
+-- cells and at most a million nodes; each distortion is a number, and the tolerance at most a
+-- million parts per million, in units of 10^-15
+pub record IsPrintable (p : Problem) : Type 0 where
+  pub grids : AreGrids p.families
+  pub some_cell : 0 < p.cells
+  pub few_cells : p.cells ≤ 200_000
+  pub few_nodes : needed p ≤ 1_000_000
+  pub sizes : (d : Design) (cell size : ℕ)
+      → p.delta d cell ≡ Some size → size ≤ 10_000_000_000_000_000_000
+  pub tolerance : IfSome p.tolerance (λ t. t ≤ 1_000_000_000_000_000)
+
+-- what they ask of their own names and reports
+pub record AreValues (j : Job) : Type 0 where
+  pub names : IfSome j.names AreNames
+  pub report : IsReport j.report
+
+-- the certificate of the best design has a text
+abbrev pub BestHaveTexts : Type 0
+BestHaveTexts = (p : Problem) (list : CellList) (present : Names) (x : Ranked) (j : Job)
+    → IsPrintable p → AreValues j → best p ≡ Some x → IsCertificateOf p list present x j
+    → IsJob j
+
+-- it is read back, and it is short enough for a file
+abbrev pub BestAreReadBack : Type 0
+BestAreReadBack = (p : Problem) (list : CellList) (present : Names) (x : Ranked) (j : Job)
+    → IsPrintable p → AreValues j → best p ≡ Some x → IsCertificateOf p list present x j
+    → (job (job_text j) ≡ Ok j) × (length (job_text j) ≤ 128_000_000)
