@@ -1,4 +1,4 @@
--- How long a canonical forest is, and how large a cost.
+-- How long a canonical forest is, and the list of what is so at each cell.
 use Rattle.std.proofs.Common.{◌≡◌, ◌≤◌, ◌+◌, ℕ, zero, suc, List, [], ◌∷◌, ◌++◌, length}
 use Rattle.std.proofs.Common.{Option, refl, ap, subst, ◌∙◌, arith}
 use Rattle.std.proofs.lemmas.List.{length-append}
@@ -10,7 +10,7 @@ use Rattle.ldp_design.specs.Splits.{parts_at}
 use Rattle.ldp_design.proofs.Wholes.{wholes_hold}
 use Rattle.ldp_problem.specs.declared.pair.Pair.{Pair}
 use Rattle.ldp_problem.specs.Problem.{Problem}
-use Rattle.ldp_problem.specs.Costs.{at_cells, largest}
+use Rattle.ldp_problem.specs.Costs.{at_cells}
 use Rattle.ldp_optimum.specs.Best.{least}
 use Rattle.ldp_optimum.specs.Forest.{tree_of, first_trees, forest, needed}
 use Rattle.ldp_optimum.specs.Trees.{IsTreeOf}
@@ -24,14 +24,6 @@ pub length-at_cells : {A : Type 0} (f : ℕ → A) (n : ℕ) → length (at_cell
 length-at_cells f zero = refl
 length-at_cells f (suc n) =
     length-append (at_cells f n) (f n ∷ []) ∙ omega (arith, length-at_cells f n)
-
-largest_push : (xs : List ℕ) (x m : ℕ) → largest xs ≤ m → x ≤ m → largest (xs ++ x ∷ []) ≤ m
-largest_push [] x m h k = omega (arith, k)
-largest_push (y ∷ xs) x m h k = omega (arith, h, largest_push xs x m (omega (arith, h)) k)
-
-pub largest_most : (f : ℕ → ℕ) (n m : ℕ) → ((cell : ℕ) → f cell ≤ m) → largest (at_cells f n) ≤ m
-largest_most f zero m h = omega arith
-largest_most f (suc n) m h = largest_push (at_cells f n) (f n) m (largest_most f n m h) (h n)
 
 -- a tree has nodes alone
 tree_length : (p : Problem) (w : Option Pair) (b : DesignBox) (ns : List Node)

@@ -20,7 +20,7 @@ use Rattle.ldp_agreement.specs.Certificates.{share_of}
 use Rattle.ldp_agreement.specs.Texts.{IsPrintable, BestHaveTexts, BestAreReadBack}
 use Rattle.ldp_agreement.proofs.Certificates.{best_are_shaped}
 use Rattle.ldp_agreement.proofs.Entries.{forest_entries}
-use Rattle.ldp_agreement.proofs.Sizes.{length-at_cells, largest_most, forest_length}
+use Rattle.ldp_agreement.proofs.Sizes.{length-at_cells, forest_length}
 
 design_valid : (p : Problem) (d : Design) → IsPrintable p → IsAdmitted p.families d → IsDesign d
 design_valid p d h admitted =
@@ -32,19 +32,6 @@ design_valid p d h admitted =
       azimuth = omega (arith, admitted.within.azimuth, is.counts Azimuth);
       scale = omega (arith, admitted.within.scale, is.counts Scale);
     }
-
-size_most : (m : ℕ) (o : Option ℕ) → ((size : ℕ) → o ≡ Some size → size ≤ m) → unwrap_or o 0 ≤ m
-size_most m None h = omega arith
-size_most m (Some size) h = h size refl
-
-value_most : (p : Problem) (d : Design) → IsPrintable p
-    → (cost p d).value ≤ 10_000_000_000_000_000_000
-value_most p d h =
-    largest_most (λ cell. unwrap_or (p.delta d cell) 0) p.cells 10_000_000_000_000_000_000
-    (λ cell. size_most 10_000_000_000_000_000_000 (p.delta d cell) (h.sizes d cell))
-
-worst_valid : (n : ℕ) → n ≤ 10_000_000_000_000_000_000 → IsWorst (pos n)
-worst_valid n h = (omega (arith, ints), omega (arith, ints, h))
 
 beyond_most : (tolerance : Option ℕ) (values : List ℕ) → beyond tolerance values ≤ length values
 beyond_most None values = omega arith
@@ -69,14 +56,12 @@ pub best_have_texts : BestHaveTexts
 best_have_texts p list present x j h v e c =
     let ranked : IsRanked p x = best_ranked p x e in
     let is : IsRankOf p x.design x = ranked_usable p x.design x ranked.ranked in
-    let value : x.cost.value ≤ 10_000_000_000_000_000_000 =
-    subst (λ q. q.value ≤ 10_000_000_000_000_000_000) (sym is.cost) (value_most p x.design h) in
     let over : x.cost.over ≤ 4_294_967_295 =
     subst (λ q. q.over ≤ 4_294_967_295) (sym is.cost) (over_most p x.design h) in
     record {
       names = v.names;
       design = subst IsDesign (sym c.design) (design_valid p x.design h ranked.admitted);
-      worst = subst IsWorst (sym c.worst) (worst_valid x.cost.value value);
+      worst = v.worst;
       share = subst (λ share. IfSome share IsShare) (sym c.share)
           (share_valid p.tolerance x.cost.over over h.tolerance);
       report = v.report;

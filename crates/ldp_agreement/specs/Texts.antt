@@ -1,12 +1,11 @@
 -- The certificate of the best design has a text, which is read back and is short.
 use Rattle.std.specs.Prelude.{◌≡◌, ◌<◌, ◌≤◌, ℕ, length, Some, IfSome, Ok}
-use Rattle.ldp_design.specs.declared.design.Design.{Design}
 use Rattle.ldp_design.specs.Families.{AreGrids}
 use Rattle.ldp_cells.specs.Cells.{CellList}
 use Rattle.ldp_problem.specs.Problem.{Problem}
 use Rattle.ldp_job.specs.declared.names.Names.{Names}
 use Rattle.ldp_job.specs.declared.job.Job.{Job}
-use Rattle.ldp_job.specs.Values.{AreNames, IsReport, IsJob}
+use Rattle.ldp_job.specs.Values.{AreNames, IsWorst, IsReport, IsJob}
 use Rattle.ldp_job.specs.Texts.{job_text}
 use Rattle.ldp_job.specs.Reading.{job}
 use Rattle.ldp_optimum.specs.Best.{Ranked, best}
@@ -14,20 +13,18 @@ use Rattle.ldp_optimum.specs.Forest.{needed}
 use Rattle.ldp_agreement.specs.Certificates.{IsCertificateOf}
 
 -- what certificates ask of a problem, so that they have a text: there is a cell, at most 200,000
--- cells and at most a million nodes; each distortion is a number, and the tolerance at most a
--- million parts per million, in units of 10^-15
+-- cells and at most a million nodes; the tolerance, in units of 10^-15, is at most 1
 pub record IsPrintable (p : Problem) : Type 0 where
   pub grids : AreGrids p.families
   pub some_cell : 0 < p.cells
   pub few_cells : p.cells ≤ 200_000
   pub few_nodes : needed p ≤ 1_000_000
-  pub sizes : (d : Design) (cell size : ℕ)
-      → p.delta d cell ≡ Some size → size ≤ 10_000_000_000_000_000_000
   pub tolerance : IfSome p.tolerance (λ t. t ≤ 1_000_000_000_000_000)
 
--- what they ask of their own names and reports
+-- what they ask of their own names, worst distortion and report
 pub record AreValues (j : Job) : Type 0 where
   pub names : IfSome j.names AreNames
+  pub worst : IsWorst j.worst
   pub report : IsReport j.report
 
 -- the certificate of the best design has a text
