@@ -83,12 +83,7 @@ fn leaf<B: Bounds>(
     }
 }
 
-fn unusable<B: Bounds>(
-    stack: &mut Stack,
-    bounds: &mut B,
-    line: u32,
-    cell: u32,
-) -> Option<Reason>
+fn unusable<B: Bounds>(stack: &mut Stack, bounds: &mut B, line: u32, cell: u32) -> Option<Reason>
     requires boxes { AllLieIn (B.problem bounds.old).families stack.old.boxes }
     ensures fault { result
         ≡ box_fault (unusable_fault (B.problem bounds.old) line cell) stack.old.boxes }
