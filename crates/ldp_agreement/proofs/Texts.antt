@@ -1,6 +1,6 @@
 -- The certificate of the best design has a text.
-use Rattle.std.proofs.Common.{◌≡◌, ◌≤◌, ◌+◌, ℕ, pos, List, length}
-use Rattle.std.proofs.Common.{Option, None, Some, IfSome, arith, refl, sym, ap, subst, ◌∙◌}
+use Rattle.std.proofs.Common.{◌≡◌, ◌≤◌, ◌+◌, ℕ, List, length}
+use Rattle.std.proofs.Common.{Option, None, Some, IfSome, arith, sym, ap, subst, ◌∙◌}
 use Rattle.std.proofs.lemmas.Int.{ints}
 use Rattle.std.proofs.lemmas.List.Sums.{count_by-le-length}
 use Rattle.std.specs.Prelude.{unwrap_or, nat_lt}
@@ -10,7 +10,7 @@ use Rattle.ldp_design.specs.Designs.{IsAdmitted}
 use Rattle.ldp_design.proofs.Ranged.{families_in_range}
 use Rattle.ldp_problem.specs.Problem.{Problem}
 use Rattle.ldp_problem.specs.Costs.{cost, sizes, beyond}
-use Rattle.ldp_job.specs.Values.{IsDesign, IsWorst, IsShare, AreEntries, IsJob}
+use Rattle.ldp_job.specs.Values.{IsDesign, IsShare, AreEntries, IsJob}
 use Rattle.ldp_job.proofs.Jobs.{read_again}
 use Rattle.ldp_job.proofs.Short.{texts_short}
 use Rattle.ldp_optimum.specs.Forest.{needed}

@@ -1,5 +1,5 @@
 -- The certificate of the best design has a text, which is read back and is short.
-use Rattle.std.specs.Prelude.{◌≡◌, ◌<◌, ◌≤◌, ℕ, length, Some, IfSome, Ok}
+use Rattle.std.specs.Prelude.{◌≡◌, ◌<◌, ◌≤◌, length, Some, IfSome, Ok}
 use Rattle.ldp_design.specs.Families.{AreGrids}
 use Rattle.ldp_cells.specs.Cells.{CellList}
 use Rattle.ldp_problem.specs.Problem.{Problem}
