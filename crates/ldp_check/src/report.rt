@@ -1,5 +1,6 @@
 ghost use Rattle.std.specs.Prelude.{◌≡◌, ◌<◌, Some, IfSome, length, not, position};
 ghost use Rattle.ldp_design.specs.Designs.{IsAdmitted};
+ghost use Rattle.ldp_job.specs.Values.{IsWorst, IsReport};
 ghost use Rattle.ldp_check.specs.Reports.{report_of, differing_line, same_lines, same_place, same_cells, is_kind};
 
 use crate::number::is_equal;
@@ -19,7 +20,8 @@ pub fn report_of(
 ) -> Report
     requires admitted { IsAdmitted grids.now d.now }
     requires cell { cell < length cells.now.cells }
-    ensures { report_of grids.now cells.now d.now worst cell nodes ≡ Some result }
+    ensures value { report_of grids.now cells.now d.now worst cell nodes ≡ Some result }
+    ensures range { IsWorst worst → IsReport result }
 {
     let family = grids.family(d.family);
     let at = cells.get(cell);
