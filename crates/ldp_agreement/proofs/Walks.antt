@@ -125,14 +125,16 @@ closed_shows p w b sound l h u t = by_test (is_single b) refl t
     by_test true s any =
         let same = single_exact p b sound h (single_of b s) in
         subst (AtMost w) (sym same.0)
-        (l.least (first_of b) (boxes_are_admitted p.families b (first_of b) h (first_in p.families b h))
+        (l.least (first_of b)
+        (boxes_are_admitted p.families b (first_of b) h (first_in p.families b h))
         (none_undefined p (first_of b) (usable_when p b s u)))
 
 -- an entry `Leaf` at the cell of the bound
 not_open : (tolerance : Option ℕ) (w shown : Pair) (line : ℕ) → (tolerance ≡ None → w.over ≡ 0)
     → (tolerance ≡ None → shown.over ≡ 0) → AtMost w shown
     → open_fault tolerance w line shown ≡ None
-not_open None w shown line e f h = no_fault (nat_lt shown.value w.value) (not_less w shown (e refl) (f refl) h)
+not_open None w shown line e f h =
+    no_fault (nat_lt shown.value w.value) (not_less w shown (e refl) (f refl) h)
   where
     not_less : (a b : Pair) → a.over ≡ 0 → b.over ≡ 0 → AtMost a b → nat_lt b.value a.value ≡ false
     not_less a b e f h = grind (arith, nat_tests)
@@ -157,7 +159,8 @@ sound_leaf p w line b sound l h most =
     let cell = bound_at_cell p b sound.some_cell in
     let shown : leaf_pair p b (bound_cell p b) ≡ bound p b =
     ap (λ v. record { over = beyond p.tolerance (lows p b); value = v }) cell.1 in
-    ap (λ t. cond {A = Option Reason} t (open_fault p.tolerance w line (leaf_pair p b (bound_cell p b))) (Some (NoSuchCell line)))
+    ap (λ t. cond {A = Option Reason} t
+    (open_fault p.tolerance w line (leaf_pair p b (bound_cell p b))) (Some (NoSuchCell line)))
     (lt-ltb (bound_cell p b) p.cells cell.0)
     ∙ not_open p.tolerance w (leaf_pair p b (bound_cell p b)) line l.uncounted
     (none_beyond p.tolerance (lows p b)) (subst (AtMost w) (sym shown) most)
@@ -176,7 +179,8 @@ pub first_none : {o q : Option Reason} → o ≡ None → q ≡ None → option_
 first_none {o = o} {q = q} e f = rw (e, f) refl
 
 -- the nodes of a box, and then the others
-pub walked : (p : Problem) (w : Pair) (b : DesignBox) (nodes entries : List Node) (trees : ℕ) (boxes : List DesignBox)
+pub walked : (p : Problem) (w : Pair) (b : DesignBox) (nodes entries : List Node) (trees : ℕ)
+    (boxes : List DesignBox)
     → IsSound p → AreGrids p.families → IsLeast p w → LiesIn p.families b
     → IsTreeOf p (Some w) b nodes
     → NoFault p w entries trees boxes → NoFault p w (nodes ++ entries) trees (b ∷ boxes)
@@ -184,11 +188,15 @@ unfolding NoFault
 walked p w _ _ entries trees boxes sound g l h (undefined b cell u) later line =
     first_none (sound_unusable p w line cell b u) (later (line + 1))
 walked p w _ _ entries trees boxes sound g l h (closed b u t) later line =
-    first_none (sound_leaf p w line b sound l h (closed_shows p w b sound l h u t)) (later (line + 1))
-walked p w _ _ entries trees boxes sound g l h (parted b axis at low high a c first second) later line =
+    first_none (sound_leaf p w line b sound l h (closed_shows p w b sound l h u t))
+    (later (line + 1))
+walked p w _ _ entries trees boxes sound g l h (parted b axis at low high a c i j) later line =
     let cut = splits_cut p.families b axis at g h c in
     let parts = cuts_part p.families b axis at h cut in
     first_none (sound_split line axis at b cut)
-    (subst (λ ns. NoFault p w ns trees ((parts_at axis at b).0 ∷ (parts_at axis at b).1 ∷ boxes)) (sym (append_assoc low high entries))
-    (walked p w (parts_at axis at b).0 low (high ++ entries) trees ((parts_at axis at b).1 ∷ boxes) sound g l parts.low_lies first
-    (walked p w (parts_at axis at b).1 high entries trees boxes sound g l parts.high_lies second later)) (line + 1))
+    (subst (λ ns. NoFault p w ns trees ((parts_at axis at b).0 ∷ (parts_at axis at b).1 ∷ boxes))
+    (sym (append_assoc low high entries))
+    (walked p w (parts_at axis at b).0 low (high ++ entries) trees ((parts_at axis at b).1 ∷ boxes)
+    sound g l parts.low_lies i
+    (walked p w (parts_at axis at b).1 high entries trees boxes sound g l parts.high_lies j later))
+    (line + 1))

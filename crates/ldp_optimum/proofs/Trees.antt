@@ -34,11 +34,14 @@ pub parts_of : (families : List Family) (b : DesignBox) (axis : AxisName) (at : 
     → AreGrids families
     → LiesIn families b → cut_for families b ≡ Some (axis, at)
     → AreParts families b (parts_at axis at b).0 (parts_at axis at b).1
-parts_of families b axis at g h e = cuts_part families b axis at h (splits_cut families b axis at g h e)
+parts_of families b axis at g h e =
+    cuts_part families b axis at h (splits_cut families b axis at g h e)
 
-grown_same : (o : Option Node) (cut : Option (AxisName × ℕ)) (b : DesignBox) (f g : DesignBox → List Node)
+grown_same : (o : Option Node) (cut : Option (AxisName × ℕ)) (b : DesignBox)
+    (f g : DesignBox → List Node)
     → ((axis : AxisName) (at : ℕ) → cut ≡ Some (axis, at)
-    → (f (parts_at axis at b).0 ≡ g (parts_at axis at b).0) × (f (parts_at axis at b).1 ≡ g (parts_at axis at b).1))
+    → (f (parts_at axis at b).0 ≡ g (parts_at axis at b).0)
+    × (f (parts_at axis at b).1 ≡ g (parts_at axis at b).1))
     → grown o cut b f ≡ grown o cut b g
 grown_same (Some node) cut b f g same = refl
 grown_same None None b f g same = refl
@@ -132,14 +135,16 @@ usable_many p b s = ap (λ t. cond {A = Option ℕ} t (first_undefined p (first_
 pub split_open : (p : Problem) (w : Option Pair) (b : DesignBox) → is_single b ≡ false
     → is_above (bound p b) w ≡ false → end_of p w b ≡ None
 split_open p w b s a =
-    ap (λ o. end_node o (is_single b || is_above (bound p b) w) (bound_cell p b)) (usable_many p b s)
+    ap (λ o. end_node o (is_single b || is_above (bound p b) w) (bound_cell p b))
+    (usable_many p b s)
     ∙ ap (λ t. end_node None (t || is_above (bound p b) w) (bound_cell p b)) s
     ∙ ap (λ t. end_node None (false || t) (bound_cell p b)) a
 
 split_within : (p : Problem) (w : Option Pair) (n : ℕ) (b : DesignBox) (axis : AxisName) (at : ℕ)
     → AreGrids p.families → LiesIn p.families b → size b ≤ n → end_of p w b ≡ None
     → cut_for p.families b ≡ Some (axis, at)
-    → tree_within p w n b ≡ Split axis at ∷ (tree_of p w (parts_at axis at b).0 ++ tree_of p w (parts_at axis at b).1)
+    → tree_within p w n b
+    ≡ Split axis at ∷ (tree_of p w (parts_at axis at b).0 ++ tree_of p w (parts_at axis at b).1)
 split_within p w zero b axis at g h i e c = absurd (omega (arith, some_size b))
 split_within p w (suc n) b axis at g h i e c =
     let parts = parts_of p.families b axis at g h c in
@@ -148,12 +153,14 @@ split_within p w (suc n) b axis at g h i e c =
     ∙ ap (λ low. Split axis at ∷ (low ++ tree_within p w n (parts_at axis at b).1))
     (whole_within p w n (parts_at axis at b).0 g parts.low_lies (omega (arith, parts.low_smaller)))
     ∙ ap (λ high. Split axis at ∷ (tree_of p w (parts_at axis at b).0 ++ high))
-    (whole_within p w n (parts_at axis at b).1 g parts.high_lies (omega (arith, parts.high_smaller)))
+    (whole_within p w n (parts_at axis at b).1 g parts.high_lies
+    (omega (arith, parts.high_smaller)))
 
 pub tree_split : (p : Problem) (w : Option Pair) (b : DesignBox) (axis : AxisName) (at : ℕ)
     → AreGrids p.families → LiesIn p.families b → is_above (bound p b) w ≡ false
     → cut_for p.families b ≡ Some (axis, at)
-    → tree_of p w b ≡ Split axis at ∷ (tree_of p w (parts_at axis at b).0 ++ tree_of p w (parts_at axis at b).1)
+    → tree_of p w b
+    ≡ Split axis at ∷ (tree_of p w (parts_at axis at b).0 ++ tree_of p w (parts_at axis at b).1)
 tree_split p w b axis at g h a c =
     sym (whole_within p w (size b) b g h (omega arith))
     ∙ split_within p w (size b) b axis at g h (omega arith)
@@ -194,7 +201,8 @@ tree_grown p w (suc n) b g h i = by_fate p w n b g h i (fate p w b h) (tree_grow
   where
     by_fate : (p : Problem) (w : Option Pair) (n : ℕ) (b : DesignBox) → AreGrids p.families
         → LiesIn p.families b → size b ≤ suc n → Fate p w b
-        → ((part : DesignBox) → AreGrids p.families → LiesIn p.families part → size part ≤ n → IsTreeOf p w part (tree_of p w part))
+        → ((part : DesignBox) → AreGrids p.families → LiesIn p.families part → size part ≤ n
+        → IsTreeOf p w part (tree_of p w part))
         → IsTreeOf p w b (tree_of p w b)
     by_fate p w n b g h i (ends_undefined cell u) grow =
         subst (IsTreeOf p w b) (sym (tree_unusable p w b cell u)) (trees.undefined b cell u)
@@ -216,7 +224,8 @@ pub complete : (p : Problem) (w : Option Pair) (b : DesignBox) (nodes : List Nod
     → IsTreeOf p w b nodes → IsTree nodes
 complete p w _ _ (trees.undefined b cell u) = undefined cell
 complete p w _ _ (trees.closed b u t) = closed (bound_cell p b)
-complete p w _ _ (trees.parted b axis at low high a c l h) = parted axis at low high (complete p w _ low l) (complete p w _ high h)
+complete p w _ _ (trees.parted b axis at low high a c l h) =
+    parted axis at low high (complete p w _ low l) (complete p w _ high h)
 
 pub split_counts : (axis : AxisName) (at : ℕ) (low high : List Node)
     → node_count (Split axis at ∷ (low ++ high)) ≡ 1 + node_count low + node_count high
@@ -235,8 +244,10 @@ counted p w _ _ g h (trees.closed b u t) = (omega arith, omega (arith, some_size
 counted p w _ _ g h (trees.parted b axis at low high a c l k) =
     let parts = parts_of p.families b axis at g h c in
     let first = counted p w (parts_at axis at b).0 low g parts.low_lies l in
-    let second = counted p w (parts_at axis at b).1 high g parts.high_lies k in
-    (omega (arith, split_counts axis at low high), omega (arith, split_counts axis at low high, first.1, second.1, parts.sizes))
+    let second = counted p w (parts_at axis at b).1 high g parts.high_lies k in (
+      omega (arith, split_counts axis at low high),
+      omega (arith, split_counts axis at low high, first.1, second.1, parts.sizes),
+    )
 
 pub trees_have_nodes : (p : Problem) (w : Option Pair) (b : DesignBox) → AreGrids p.families
     → LiesIn p.families b
