@@ -17,7 +17,7 @@ use Rattle.ldp_design.specs.Forests.{node_count, start, IsWellShaped}
 use Rattle.ldp_cells.specs.Cells.{CellList}
 use Rattle.ldp_problem.specs.declared.pair.Pair.{Pair}
 use Rattle.ldp_problem.specs.Problem.{Problem, IsSound}
-use Rattle.ldp_problem.specs.Costs.{first_undefined, cost, worst_cell, beyond, sizes}
+use Rattle.ldp_problem.specs.Costs.{first_undefined, cost, worst_cell, sizes}
 use Rattle.ldp_problem.proofs.Facts.{usable_has_none}
 use Rattle.ldp_job.specs.declared.names.Names.{Names}
 use Rattle.ldp_job.specs.declared.report.Report.{Report}
@@ -41,7 +41,7 @@ use Rattle.ldp_check.specs.Verdicts.{is_design_of, is_admitted, first_some, reas
 use Rattle.ldp_check.specs.Verdicts.{verdict_by}
 use Rattle.ldp_agreement.specs.Certificates.{IsCertificateOf, share_of, BestAreAccepted}
 use Rattle.ldp_agreement.specs.Certificates.{BestAreShaped}
-use Rattle.ldp_agreement.proofs.Walks.{IsLeast}
+use Rattle.ldp_agreement.proofs.Walks.{IsLeast, none_beyond}
 use Rattle.ldp_agreement.proofs.Forests.{forest_walked}
 
 same_bytes : (xs : List ℕ) → bytes_eq xs xs ≡ true
@@ -110,11 +110,6 @@ printed_share : (tolerance : Option ℕ) (over : ℕ) → (tolerance ≡ None �
     → printed_over (share_of tolerance over) ≡ over
 printed_share None over none = sym (none refl)
 printed_share (Some t) over none = refl
-
-none_beyond : (tolerance : Option ℕ) (values : List ℕ) → tolerance ≡ None
-    → beyond tolerance values ≡ 0
-none_beyond None values e = refl
-none_beyond (Some t) values e = absurd cc
 
 none_against : (a b c d e f g : Option Reason) → a ≡ None → b ≡ None → c ≡ None → d ≡ None
     → e ≡ None → f ≡ None

@@ -1,10 +1,10 @@
 -- A walk along the nodes of a box finds no fault in them.
 use Rattle.std.proofs.Common.{◌≡◌, ◌≤◌, ◌+◌, ℕ, pos, Bool, true, false, cond, not, ◌&&◌, ◌||◌}
-use Rattle.std.proofs.Common.{◌==◌, List, ◌∷◌, ◌++◌, append_assoc, Option, None, Some, refl, sym}
+use Rattle.std.proofs.Common.{List, ◌∷◌, ◌++◌, append_assoc, Option, None, Some, refl, sym}
 use Rattle.std.proofs.Common.{ap, subst, ◌∙◌, arith}
 use Rattle.std.proofs.lemmas.Bool.Decides.{nat_tests}
 use Rattle.std.proofs.lemmas.Bool.{lt-ltb, le-leb}
-use Rattle.std.specs.Prelude.{is_none, nat_lt, nat_le}
+use Rattle.std.specs.Prelude.{option_and_then, is_none, nat_lt, nat_le}
 use Rattle.std.specs.Bool.{then_some}
 use Rattle.std.specs.Option.{option_or}
 use Rattle.ldp_design.specs.declared.axis.AxisName.{AxisName}
@@ -16,9 +16,10 @@ use Rattle.ldp_design.specs.declared.node.Node.{Node}
 use Rattle.ldp_design.specs.Families.{AreGrids}
 use Rattle.ldp_design.specs.Designs.{index_of, IsAdmitted}
 use Rattle.ldp_design.specs.Boxes.{span_of, is_single, IsIn, IsSingle, LiesIn, first_of}
-use Rattle.ldp_design.specs.Splits.{parts_at, IsCut}
+use Rattle.ldp_design.specs.Splits.{parts_at, IsCut, family_cut, middle}
+use Rattle.ldp_design.specs.Measures.{widest}
 use Rattle.ldp_design.proofs.Cuts.{cuts_part}
-use Rattle.ldp_design.proofs.Splits.{splits_cut}
+use Rattle.ldp_design.proofs.Splits.{splits_cut, singles_end}
 use Rattle.ldp_design.proofs.Wholes.{boxes_are_admitted}
 use Rattle.ldp_problem.specs.declared.pair.Pair.{Pair}
 use Rattle.ldp_problem.specs.Problem.{Problem, IsSound}
@@ -76,24 +77,14 @@ usable_when : (p : Problem) (b : DesignBox) → is_single b ≡ true → unusabl
 usable_when p b s u =
     sym (ap (λ t. cond {A = Option ℕ} t (first_undefined p (first_of b)) None) s) ∙ u
 
-one_index : (h i j k l m n o : ℕ) → ((h == i && j == k) && (l == m && n == o)) ≡ true
-    → (h ≡ i) × (j ≡ k) × (l ≡ m) × (n ≡ o)
-one_index h i j k l m n o t = (
-  grind (arith, nat_tests),
-  grind (arith, nat_tests),
-  grind (arith, nat_tests),
-  grind (arith, nat_tests),
-)
-
-single_of : (b : DesignBox) → is_single b ≡ true → IsSingle b
-single_of b t =
-    let same =
-    one_index b.lat.lo b.lat.hi b.lon.lo b.lon.hi b.azimuth.lo b.azimuth.hi
-    b.scale.lo b.scale.hi t in
-    record {
-      one = λ a. elim a as (λ x. (span_of x b).lo ≡ (span_of x b).hi)
-          [ Lat ↦ same.0 | Lon ↦ same.1 | Azimuth ↦ same.2 | Scale ↦ same.3 ];
-    }
+single_of : (families : List Family) (b : DesignBox) → LiesIn families b → is_single b ≡ true
+    → IsSingle b
+unfolding family_cut
+single_of families b h t =
+    (singles_end families b h).0
+    (ap (option_and_then (λ f. family_cut f b)) h.found
+    ∙ ap (λ u. cond {A = Option (AxisName × ℕ)} u None
+    (Some (widest h.family b, middle (widest h.family b) b))) t)
 
 -- an entry `Unusable`
 sound_unusable : (p : Problem) (w : Pair) (line cell : ℕ) (b : DesignBox)
@@ -123,7 +114,7 @@ closed_shows p w b sound l h u t = by_test (is_single b) refl t
         → AtMost w (bound p b)
     by_test false s above = smaller_at_most w (bound p b) above
     by_test true s any =
-        let same = single_exact p b sound h (single_of b s) in
+        let same = single_exact p b sound h (single_of p.families b h s) in
         subst (AtMost w) (sym same.0)
         (l.least (first_of b)
         (boxes_are_admitted p.families b (first_of b) h (first_in p.families b h))
@@ -147,7 +138,7 @@ not_open (Some t) w shown line e f h = no_fault (is_smaller shown w) h
         → then_some t (ShareOpen line shown.over (pos shown.value)) ≡ None
     no_fault t e = rw e refl
 
-none_beyond : (tolerance : Option ℕ) (values : List ℕ) → tolerance ≡ None
+pub none_beyond : (tolerance : Option ℕ) (values : List ℕ) → tolerance ≡ None
     → beyond tolerance values ≡ 0
 none_beyond None values e = refl
 none_beyond (Some t) values e = absurd cc

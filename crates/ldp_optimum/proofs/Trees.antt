@@ -1,23 +1,23 @@
 -- The tree of a box.
 use Rattle.std.proofs.Common.{◌≡◌, ◌≤◌, ◌<◌, ◌+◌, ◌*◌, ℕ, zero, suc, Bool, true, false, cond, ◌||◌}
-use Rattle.std.proofs.Common.{◌&&◌, ◌==◌, List, [], ◌∷◌, ◌++◌, Option, None, Some, refl, sym, ap}
+use Rattle.std.proofs.Common.{List, [], ◌∷◌, ◌++◌, Option, None, Some, refl, sym, ap}
 use Rattle.std.proofs.Common.{subst, ◌∙◌, arith}
 use Rattle.std.proofs.Math.Nat.{mul-pos}
-use Rattle.std.proofs.lemmas.Bool.Decides.{nat_tests}
 use Rattle.std.proofs.lemmas.List.Sums.{sum_by-cons, sum_by-append}
 use Rattle.ldp_design.specs.declared.axis.AxisName.{AxisName}
-use Rattle.ldp_design.specs.declared.axis.AxisName.TheVariants.{Lat, Lon, Azimuth, Scale}
 use Rattle.ldp_design.specs.declared.family.Family.{Family}
 use Rattle.ldp_design.specs.declared.design_box.DesignBox.{DesignBox}
 use Rattle.ldp_design.specs.declared.node.Node.{Node}
 use Rattle.ldp_design.specs.declared.node.Node.TheVariants.{Split, Leaf, Unusable}
 use Rattle.ldp_design.specs.Families.{AreGrids}
-use Rattle.ldp_design.specs.Boxes.{is_single, size, LiesIn, IsSingle, first_of, span_of}
-use Rattle.ldp_design.specs.Splits.{cut_for, parts_at, AreParts}
+use Rattle.ldp_design.specs.Measures.{widest}
+use Rattle.std.specs.Prelude.{option_and_then}
+use Rattle.ldp_design.specs.Boxes.{is_single, size, LiesIn, first_of}
+use Rattle.ldp_design.specs.Splits.{family_cut, middle, cut_for, parts_at, AreParts}
 use Rattle.ldp_design.specs.Forests.{node_count, is_node}
 use Rattle.ldp_design.specs.Shapes.{IsTree, closed, undefined, parted}
 use Rattle.ldp_design.proofs.Cuts.{cuts_part}
-use Rattle.ldp_design.proofs.Splits.{splits_cut, singles_end}
+use Rattle.ldp_design.proofs.Splits.{splits_cut}
 use Rattle.ldp_problem.specs.declared.pair.Pair.{Pair}
 use Rattle.ldp_problem.specs.Problem.{Problem}
 use Rattle.ldp_problem.specs.Costs.{bound, bound_cell, unusable_at, first_undefined}
@@ -90,33 +90,16 @@ tree_closed p w b e t =
     (ap (λ o. end_node o (is_single b || is_above (bound p b) w) (bound_cell p b)) e
     ∙ ap (λ c. end_node None c (bound_cell p b)) t)
 
-one_index : (h i j k l m n o : ℕ) → ((h == i && j == k) && (l == m && n == o)) ≡ true
-    → (h ≡ i) × (j ≡ k) × (l ≡ m) × (n ≡ o)
-one_index h i j k l m n o t = (
-  grind (arith, nat_tests),
-  grind (arith, nat_tests),
-  grind (arith, nat_tests),
-  grind (arith, nat_tests),
-)
-
-pub single_of : (b : DesignBox) → is_single b ≡ true → IsSingle b
-single_of b t =
-    let same =
-    one_index b.lat.lo b.lat.hi b.lon.lo b.lon.hi b.azimuth.lo b.azimuth.hi
-    b.scale.lo b.scale.hi t in
-    record {
-      one = λ a. elim a as (λ x. (span_of x b).lo ≡ (span_of x b).hi)
-          [ Lat ↦ same.0 | Lon ↦ same.1 | Azimuth ↦ same.2 | Scale ↦ same.3 ];
-    }
-
-one_indices : (h i j k l m n o : ℕ) → h ≡ i → j ≡ k → l ≡ m → n ≡ o
-    → ((h == i && j == k) && (l == m && n == o)) ≡ true
-one_indices h i j k l m n o a b c d = grind (arith, nat_tests)
-
-pub single_is : (b : DesignBox) → IsSingle b → is_single b ≡ true
-single_is b s =
-    one_indices b.lat.lo b.lat.hi b.lon.lo b.lon.hi b.azimuth.lo b.azimuth.hi b.scale.lo b.scale.hi
-    (s.one Lat) (s.one Lon) (s.one Azimuth) (s.one Scale)
+-- a single is not cut, and any other box is
+cut_by : (families : List Family) (b : DesignBox) (t : Bool) (h : LiesIn families b)
+    → is_single b ≡ t
+    → cut_for families b
+    ≡ cond t None (Some (widest h.family b, middle (widest h.family b) b))
+unfolding family_cut
+cut_by families b t h e =
+    ap (option_and_then (λ f. family_cut f b)) h.found
+    ∙ ap (λ u. cond {A = Option (AxisName × ℕ)} u None
+    (Some (widest h.family b, middle (widest h.family b) b))) e
 
 -- a box that is split is no single
 pub no_single : (families : List Family) (b : DesignBox) (cut : AxisName × ℕ) → LiesIn families b
@@ -125,7 +108,7 @@ no_single families b cut h e = by_test (is_single b) refl
   where
     by_test : (t : Bool) → is_single b ≡ t → is_single b ≡ false
     by_test true s =
-        let none : cut_for families b ≡ None = (singles_end families b h).1 (single_of b s) in
+        let none : cut_for families b ≡ None = cut_by families b true h s in
         absurd cc
     by_test false s = s
 
@@ -177,7 +160,9 @@ fate_open : (p : Problem) (w : Option Pair) (b : DesignBox) (cut : Option (AxisN
     → LiesIn p.families b → is_single b ≡ false → is_above (bound p b) w ≡ false
     → cut_for p.families b ≡ cut → Fate p w b
 fate_open p w b None h s a c =
-    let single : is_single b ≡ true = single_is b ((singles_end p.families b h).0 c) in absurd cc
+    let some : cut_for p.families b ≡ Some (widest h.family b, middle (widest h.family b) b) =
+    cut_by p.families b false h s in
+    absurd cc
 fate_open p w b (Some (axis, at)) h s a c = splits axis at a c
 
 pub fate : (p : Problem) (w : Option Pair) (b : DesignBox) → LiesIn p.families b → Fate p w b
