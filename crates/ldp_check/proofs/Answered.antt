@@ -53,3 +53,7 @@ if_none (Some x) P Q f h = h
 pub always : {A : Type 0} (o : Option A) (P : Type 0) → P → IfNone o P
 always None P h = h
 always (Some x) P h = tt
+
+pub none_gives : {A : Type 0} (o : Option A) (P : Type 0) → o ≡ None → IfNone o P → P
+none_gives None P e h = h
+none_gives (Some x) P e h = absurd cc

@@ -1,6 +1,5 @@
 -- Cells beyond the tolerance, counted one after the other.
-use Rattle.std.proofs.Common.{◌≡◌, ◌≤◌, ◌<◌, ◌+◌, ℕ, zero, suc, cond, List, [], ◌∷◌, ◌++◌, length, arith, refl, sym, ap, ◌∙◌, ℤ, pos, add-one}
-use Rattle.std.proofs.lemmas.Bool.Decides.{nat_tests}
+use Rattle.std.proofs.Common.{◌≡◌, ◌+◌, ℕ, cond, List, [], ◌∷◌, ◌++◌, arith, sym, ap, ◌∙◌, ℤ, pos, add-one}
 use Rattle.std.proofs.lemmas.List.Sums.{sum_by-append, sum_by-cons}
 use Rattle.std.specs.Prelude.{Option, None, Some, nat_lt, int_lt, count_by, option_map, if◌then◌else◌}
 use Rattle.ldp_problem.specs.Costs.{at_cells, beyond}

@@ -1,6 +1,6 @@
 -- The entries of a forest, each judged at its place: the trees that have begun, and the boxes whose
 -- nodes are still to come. (Own choice of this project.)
-use Rattle.std.specs.Prelude.{◌≡◌, ◌≤◌, ℕ, suc, pos, ◌+◌, ◌==◌, ◌&&◌, not, nat_lt, nat_le, length}
+use Rattle.std.specs.Prelude.{◌≤◌, ℕ, suc, pos, ◌+◌, ◌==◌, ◌&&◌, not, nat_lt, nat_le, length}
 use Rattle.std.specs.Prelude.{List, [], ◌∷◌, Option, None, Some, is_none, if◌then◌else◌}
 use Rattle.std.specs.Bool.{then_some}
 use Rattle.std.specs.Option.{option_or}

@@ -1,4 +1,5 @@
-ghost use Rattle.std.specs.Prelude.{◌≡◌, ◌≤◌, ◌<◌, [], ◌∷◌, length, IfOk, Ok};
+ghost use Rattle.std.specs.Prelude.{◌≡◌, ◌≤◌, ◌<◌, [], ◌∷◌, length, IfOk, IfNone, Ok};
+ghost use Rattle.ldp_design.specs.Families.{AreGrids};
 ghost use Rattle.ldp_design.specs.Designs.{IsAdmitted};
 ghost use Rattle.ldp_design.specs.Forests.{IsWellShaped, node_count};
 ghost use Rattle.ldp_check.specs.Printed.{SameTolerance};
@@ -81,6 +82,7 @@ fn reason_against<B: Bounds>(
     requires room { length job.now.forest ≤ stack.old.room }
     ensures reason { result
         ≡ reason_against (B.problem bounds.old) cells.now names.now job.now }
+    ensures grids { IfNone result (AreGrids grids.now) }
     ensures same { B.problem bounds.new ≡ B.problem bounds.old }
     ensures room { stack.new.room ≡ stack.old.room }
 {
@@ -90,15 +92,16 @@ fn reason_against<B: Bounds>(
     if !admits(grids, &job.design) {
         return Some(Reason::NotAdmissible);
     }
-    let (over, value, cell) = match bounds.cost(&job.design) {
-        Cost::Unusable { cell } => return Some(Reason::DesignUnusable { cell }),
-        Cost::Is { over, value, cell } => (over, value, cell),
-    };
-    if let Some(reason) = printed_differs(grids, cells, job, over, value, cell) {
-        return Some(reason);
+    match bounds.cost(&job.design) {
+        Cost::Unusable { cell } => Some(Reason::DesignUnusable { cell }),
+        Cost::Is { over, value, cell } => {
+            if let Some(reason) = printed_differs(grids, cells, job, over, value, cell) {
+                return Some(reason);
+            }
+            let first = forest_line(&job.names);
+            first_fault(stack, bounds, grids, &job.forest, printed(job), first)
+        }
     }
-    let first = forest_line(&job.names);
-    first_fault(stack, bounds, grids, &job.forest, printed(job), first)
 }
 
 /// The first reason against what is printed of the design, whose cost is this, and whose worst
@@ -117,7 +120,7 @@ fn printed_differs(
     ensures { result ≡ first_some (other_over job.now.share over
         ∷ other_worst job.now.worst value
         ∷ other_report job.now.names job.now.report (report_of grids.now cells.now
-            job.now.design value cell (node_count job.now.forest))
+        job.now.design value cell (node_count job.now.forest))
         ∷ []) }
 {
     if let Some(reason) = over_differs(job.share, over) {

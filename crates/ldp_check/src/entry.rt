@@ -49,10 +49,7 @@ fn split(stack: &mut Stack, line: u32, axis: AxisName, at: u32) -> Option<Reason
         return None;
     };
     let span = b.span(axis);
-    if at < span.lo {
-        return Some(Reason::BadSplit { line });
-    }
-    if at >= span.hi {
+    if at < span.lo || at >= span.hi {
         return Some(Reason::BadSplit { line });
     }
     let (low, high) = cut(&b, axis, at);
@@ -83,12 +80,7 @@ fn leaf<B: Bounds>(
     }
 }
 
-fn unusable<B: Bounds>(
-    stack: &mut Stack,
-    bounds: &mut B,
-    line: u32,
-    cell: u32,
-) -> Option<Reason>
+fn unusable<B: Bounds>(stack: &mut Stack, bounds: &mut B, line: u32, cell: u32) -> Option<Reason>
     requires boxes { AllLieIn (B.problem bounds.old).families stack.old.boxes }
     ensures fault { result
         ≡ box_fault (unusable_fault (B.problem bounds.old) line cell) stack.old.boxes }

@@ -1,5 +1,5 @@
 //! What a certificate prints, beside what is so.
-ghost use Rattle.std.specs.Prelude.{◌≡◌, ◌≤◌, ◌<◌, ◌==◌, not, length, if◌then◌else◌};
+ghost use Rattle.std.specs.Prelude.{◌≡◌, ◌≤◌, ◌<◌, ◌==◌, not, Some, length, if◌then◌else◌};
 ghost use Rattle.std.specs.Bool.{then_some};
 ghost use Rattle.ldp_design.specs.Designs.{IsAdmitted};
 ghost use Rattle.ldp_design.specs.Forests.{IsWellShaped, is_node, node_count};
@@ -12,7 +12,7 @@ use crate::reason::Reason;
 use crate::report::{differing_line, report_of};
 use ldp_cells::Cells;
 use ldp_design::{Forest, Grids, Node};
-use ldp_job::{Job, Names, Share};
+use ldp_job::{Job, Names, Report, Share};
 use ldp_problem::Pair;
 
 /// The printed cost.
@@ -102,10 +102,16 @@ pub fn report_differs(
 {
     let nodes = node_count(&job.forest);
     let actual = report_of(grids, cells, &job.design, worst, cell, nodes);
-    match differing_line(&job.report, &actual) {
+    other_report(&job.names, &job.report, &actual)
+}
+
+fn other_report(names: &Option<Names>, printed: &Report, actual: &Report) -> Option<Reason>
+    ensures { result ≡ other_report names.now printed.now (Some actual.now) }
+{
+    match differing_line(printed, actual) {
         None => None,
         Some(line) => Some(Reason::ReportDiffers {
-            line: report_line(&job.names) + line,
+            line: report_line(names) + line,
         }),
     }
 }

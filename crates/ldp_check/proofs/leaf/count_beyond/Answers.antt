@@ -1,4 +1,4 @@
-use Rattle.std.proofs.Common.{◌≡◌, ℤ, pos, ap, arith, rules, ◌∙◌}
+use Rattle.std.proofs.Common.{◌≡◌, pos, ap, arith, rules, ◌∙◌}
 use Rattle.std.specs.Prelude.{int_lt, if◌then◌else◌}
 use Rattle.std.proofs.lemmas.Int.{to_z-of_z}
 use mir.Val.{SFits}
