@@ -4,7 +4,7 @@ use Rattle.std.proofs.Common.{Some, refl, sym, ap, subst, ◌∙◌, ◌⊎◌, 
 use Rattle.std.proofs.lemmas.Bool.{lt-ltb, eq-eqb}
 use Rattle.std.proofs.lemmas.Bool.Decides.{Decides-int_eq}
 use Rattle.std.proofs.lemmas.Slice.Eq.{bytes_eq-Decides}
-use Rattle.std.specs.Prelude.{ℤ, unsigned_abs, nat_lt, option_map, position, bytes_eq}
+use Rattle.std.specs.Prelude.{ℤ, unsigned_abs, option_map, position, bytes_eq}
 use Rattle.std.specs.Ordering.{int_eq}
 use Rattle.std.specs.Bool.{then_some}
 use Rattle.ldp_design.specs.declared.family.Kind.{Kind}
@@ -15,8 +15,9 @@ use Rattle.ldp_design.specs.Families.{AreGrids}
 use Rattle.ldp_design.specs.Designs.{IsDesignOf, IsAdmitted}
 use Rattle.ldp_design.specs.Forests.{node_count, start, IsWellShaped}
 use Rattle.ldp_cells.specs.Cells.{CellList}
+use Rattle.ldp_problem.specs.declared.pair.Pair.{Pair}
 use Rattle.ldp_problem.specs.Problem.{Problem, IsSound}
-use Rattle.ldp_problem.specs.Costs.{first_undefined, cost, worst_cell, beyond, sizes}
+use Rattle.ldp_problem.specs.Costs.{first_undefined, cost, worst_cell, sizes}
 use Rattle.ldp_problem.proofs.Facts.{usable_has_none}
 use Rattle.ldp_job.specs.declared.names.Names.{Names}
 use Rattle.ldp_job.specs.declared.report.Report.{Report}
@@ -40,7 +41,7 @@ use Rattle.ldp_check.specs.Verdicts.{is_design_of, is_admitted, first_some, reas
 use Rattle.ldp_check.specs.Verdicts.{verdict_by}
 use Rattle.ldp_agreement.specs.Certificates.{IsCertificateOf, share_of, BestAreAccepted}
 use Rattle.ldp_agreement.specs.Certificates.{BestAreShaped}
-use Rattle.ldp_agreement.proofs.Walks.{IsLeast}
+use Rattle.ldp_agreement.proofs.Walks.{IsLeast, none_beyond}
 use Rattle.ldp_agreement.proofs.Forests.{forest_walked}
 
 same_bytes : (xs : List ℕ) → bytes_eq xs xs ≡ true
@@ -59,8 +60,9 @@ no_other_input present named (inr e) =
 -- the design is admissible and usable
 design_has : (f : Family) (d : Design) → IsDesignOf f d → has_design f d ≡ true
 design_has f d h =
-    all (nat_lt d.lat f.lat.count) (nat_lt d.lon f.lon.count) (nat_lt d.azimuth f.azimuth.count) (nat_lt d.scale f.scale.count)
-    (lt-ltb d.lat f.lat.count h.lat) (lt-ltb d.lon f.lon.count h.lon) (lt-ltb d.azimuth f.azimuth.count h.azimuth) (lt-ltb d.scale f.scale.count h.scale)
+    all _ _ _ _
+    (lt-ltb d.lat f.lat.count h.lat) (lt-ltb d.lon f.lon.count h.lon)
+    (lt-ltb d.azimuth f.azimuth.count h.azimuth) (lt-ltb d.scale f.scale.count h.scale)
   where
     all : (s t u v : Bool) → s ≡ true → t ≡ true → u ≡ true → v ≡ true
         → ((s && t) && (u && v)) ≡ true
@@ -73,7 +75,8 @@ admitted_is families d h = ap (λ f. is_design_of f d) h.found ∙ design_has h.
 -- its over and its worst are the printed ones
 same_over : (tolerance : Option ℕ) (over : ℕ) → other_over (share_of tolerance over) over ≡ None
 same_over None over = refl
-same_over (Some t) over = ap (λ b. then_some (not b) (OverDiffers over over)) (eq-eqb over over refl)
+same_over (Some t) over =
+    ap (λ b. then_some (not b) (OverDiffers over over)) (eq-eqb over over refl)
 
 same_worst : (worst : ℤ) → other_worst worst worst ≡ None
 same_worst worst = ap (λ b. then_some (not b) (WorstDiffers worst worst)) (int_same worst)
@@ -93,8 +96,9 @@ no_line a b c d e f g h i j k l m n o p q r s t u v = rw (l, m, n, o, p, q, r, s
 
 same_report : (r : Report) → differing_line r r ≡ None
 same_report r =
-    no_line _ _ _ _ _ _ _ _ _ _ _ (same_kind r.kind) (int_same r.lat) (int_same r.lon) (int_same r.azimuth)
-    (int_same r.scale) (int_same r.ppm) (eq-eqb r.row r.row refl) (eq-eqb r.col r.col refl)
+    no_line _ _ _ _ _ _ _ _ _ _ _ (same_kind r.kind) (int_same r.lat) (int_same r.lon)
+    (int_same r.azimuth) (int_same r.scale) (int_same r.ppm)
+    (eq-eqb r.row r.row refl) (eq-eqb r.col r.col refl)
     (eq-eqb r.cells r.cells refl) (eq-eqb r.missing r.missing refl) (eq-eqb r.nodes r.nodes refl)
 
 no_other_report : (names : Option Names) (r : Report) (actual : Option Report) → actual ≡ Some r
@@ -107,11 +111,6 @@ printed_share : (tolerance : Option ℕ) (over : ℕ) → (tolerance ≡ None �
 printed_share None over none = sym (none refl)
 printed_share (Some t) over none = refl
 
-none_beyond : (tolerance : Option ℕ) (values : List ℕ) → tolerance ≡ None
-    → beyond tolerance values ≡ 0
-none_beyond None values e = refl
-none_beyond (Some t) values e = absurd cc
-
 none_against : (a b c d e f g : Option Reason) → a ≡ None → b ≡ None → c ≡ None → d ≡ None
     → e ≡ None → f ≡ None
     → g ≡ None → first_some (a ∷ b ∷ c ∷ d ∷ e ∷ f ∷ g ∷ []) ≡ None
@@ -123,17 +122,22 @@ best_is_least p x is =
     let rank : IsRankOf p x.design x = ranked_usable p x.design x (best_ranked p x is).ranked in
     record {
       least = λ d a u. best_least p x d is a u;
-      uncounted = λ none. ap (λ c. c.over) rank.cost ∙ none_beyond p.tolerance (sizes p x.design) none;
+      uncounted = λ none. ap (λ c. c.over) rank.cost
+          ∙ none_beyond p.tolerance (sizes p x.design) none;
     }
+
+pair_same : (k l m n : ℕ) → k ≡ l → m ≡ n
+    → ◌≡◌ {A = Pair} (record { over = k; value = m }) (record { over = l; value = n })
+pair_same k l m n e h = rw (e, h) refl
 
 printed_cost : (p : Problem) (list : CellList) (names : Names) (x : Ranked) (job : Job)
     → best p ≡ Some x
     → IsCertificateOf p list names x job → printed job ≡ x.cost
 printed_cost p list names x job is h =
-    ap (λ s. record { over = printed_over s; value = unsigned_abs job.worst }) h.share
-    ∙ ap (λ z. record { over = printed_over (share_of p.tolerance x.cost.over); value = unsigned_abs z }) h.worst
-    ∙ ap (λ n. record { over = n; value = x.cost.value })
-    (printed_share p.tolerance x.cost.over (best_is_least p x is).uncounted)
+    pair_same _ x.cost.over _ x.cost.value
+    (ap printed_over h.share
+    ∙ printed_share p.tolerance x.cost.over (best_is_least p x is).uncounted)
+    (ap unsigned_abs h.worst)
 
 no_reason : (p : Problem) (list : CellList) (names : Names) (x : Ranked) (job : Job) → IsSound p
     → AreGrids p.families → best p ≡ Some x → IsCertificateOf p list names x job
@@ -142,8 +146,8 @@ no_reason p list names x job sound grids is h =
     let ranked : IsRanked p x = best_ranked p x is in
     let rank : IsRankOf p x.design x = ranked_usable p x.design x ranked.ranked in
     let cost_is : cost p job.design ≡ x.cost = ap (cost p) h.design ∙ sym rank.cost in
-    none_against (input_differs names job) (not_admitted p job) (not_usable p job) (over_differs p job)
-    (worst_differs p job) (report_differs p list job) (forest_fault p job)
+    none_against (input_differs names job) (not_admitted p job) (not_usable p job)
+    (over_differs p job) (worst_differs p job) (report_differs p list job) (forest_fault p job)
     (ap (option_map OtherInput) (no_other_input names job.names h.names))
     (ap (λ t. then_some (not t) NotAdmissible)
     (ap (is_admitted p.families) h.design ∙ admitted_is p.families x.design ranked.admitted))
@@ -154,17 +158,22 @@ no_reason p list names x job sound grids is h =
     (ap (λ c. other_worst job.worst (pos c.value)) cost_is
     ∙ ap (λ z. other_worst z (pos x.cost.value)) h.worst ∙ same_worst (pos x.cost.value))
     (no_other_report job.names job.report (actual_report p list job)
-    (ap (λ c. report_of p.families list job.design (pos c.value) (worst_cell p job.design) (node_count job.forest)) cost_is
-    ∙ ap (λ d. report_of p.families list d (pos x.cost.value) (worst_cell p d) (node_count job.forest)) h.design
-    ∙ ap (λ ns. report_of p.families list x.design (pos x.cost.value) (worst_cell p x.design) (node_count ns)) h.forest
+    (ap (λ c. report_of p.families list job.design (pos c.value) (worst_cell p job.design)
+    (node_count job.forest)) cost_is
+    ∙ ap (λ d. report_of p.families list d (pos x.cost.value) (worst_cell p d)
+    (node_count job.forest)) h.design
+    ∙ ap (λ ns. report_of p.families list x.design (pos x.cost.value) (worst_cell p x.design)
+    (node_count ns)) h.forest
     ∙ h.report))
-    (ap (λ w. first_fault p w (forest_line job.names) job.forest start) (printed_cost p list names x job is h)
+    (ap (λ w. first_fault p w (forest_line job.names) job.forest start)
+    (printed_cost p list names x job is h)
     ∙ ap (λ ns. first_fault p x.cost (forest_line job.names) ns start) h.forest
     ∙ forest_walked p x.cost (forest_line job.names) sound grids (best_is_least p x is)
     (ap (option_map (λ y. y.cost)) is))
 
 pub best_are_accepted : BestAreAccepted
-best_are_accepted p list names x job sound grids is h = ap verdict_by (no_reason p list names x job sound grids is h)
+best_are_accepted p list names x job sound grids is h =
+    ap verdict_by (no_reason p list names x job sound grids is h)
 
 pub best_are_shaped : BestAreShaped
 best_are_shaped p list names x job grids few h =

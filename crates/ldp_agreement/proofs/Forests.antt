@@ -38,7 +38,8 @@ sound_tree families line number trees e h =
 
 none_missing : (families : List Family) → missing_fault families (length families) ≡ None
 none_missing families =
-    no_fault (nat_lt (length families) (length families)) (le-ltb (length families) (length families) (omega arith))
+    no_fault (nat_lt (length families) (length families))
+    (le-ltb (length families) (length families) (omega arith))
   where
     no_fault : (t : Bool) → t ≡ false → then_some t (FamilyMissing (suc (length families))) ≡ None
     no_fault t e = rw e refl
@@ -46,7 +47,8 @@ none_missing families =
 -- the place after the beginning of a tree
 planted_at : (families : List Family) (trees : ℕ) (whole : DesignBox)
     → whole_of families (suc trees) ≡ Some whole
-    → after families (Tree (suc trees)) (record { trees = trees; boxes = [] }) ≡ record { trees = suc trees; boxes = whole ∷ [] }
+    → after families (Tree (suc trees)) (record { trees = trees; boxes = [] })
+    ≡ record { trees = suc trees; boxes = whole ∷ [] }
 planted_at families trees whole e = rw e refl
 
 -- the entry of a tree and its nodes, and then the others
@@ -60,9 +62,11 @@ tree_walked p w trees whole entries sound g l e h is later line =
     let lies : LiesIn p.families whole = (wholes_hold p.families (suc trees) whole g is).lies in
     let nodes : NoFault p w (tree_of p (least p) whole ++ entries) (suc trees) (whole ∷ []) =
     walked p w whole (tree_of p (least p) whole) entries (suc trees) [] sound g l lies
-    (subst (λ o. IsTreeOf p o whole (tree_of p (least p) whole)) e (trees_are_trees p (least p) whole g lies)) later in
+    (subst (λ o. IsTreeOf p o whole (tree_of p (least p) whole)) e
+    (trees_are_trees p (least p) whole g lies)) later in
     first_none (sound_tree p.families line (suc trees) trees refl h)
-    (ap (first_fault p w (line + 1) (tree_of p (least p) whole ++ entries)) (planted_at p.families trees whole is)
+    (ap (first_fault p w (line + 1) (tree_of p (least p) whole ++ entries))
+    (planted_at p.families trees whole is)
     ∙ nodes (line + 1))
 
 pub whole_at : (families : List Family) (trees : ℕ) → suc trees ≤ length families
@@ -84,7 +88,8 @@ first_walked p w (suc count) entries sound g l e h later =
     subst (λ ns. NoFault p w ns 0 [])
     (sym (ap (λ ns. ns ++ entries) (next_tree p count whole.0 whole.1)
     ∙ append_assoc (first_trees p count) (Tree (suc count) ∷ tree_of p (least p) whole.0) entries))
-    (first_walked p w count (Tree (suc count) ∷ (tree_of p (least p) whole.0 ++ entries)) sound g l e (omega arith)
+    (first_walked p w count (Tree (suc count) ∷ (tree_of p (least p) whole.0 ++ entries))
+    sound g l e (omega arith)
     (tree_walked p w count whole.0 entries sound g l e h whole.1 later))
 
 append_nil : (xs : List Node) → xs ++ [] ≡ xs

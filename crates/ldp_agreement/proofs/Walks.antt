@@ -1,10 +1,10 @@
 -- A walk along the nodes of a box finds no fault in them.
 use Rattle.std.proofs.Common.{◌≡◌, ◌≤◌, ◌+◌, ℕ, pos, Bool, true, false, cond, not, ◌&&◌, ◌||◌}
-use Rattle.std.proofs.Common.{◌==◌, List, ◌∷◌, ◌++◌, append_assoc, Option, None, Some, refl, sym}
+use Rattle.std.proofs.Common.{List, ◌∷◌, ◌++◌, append_assoc, Option, None, Some, refl, sym}
 use Rattle.std.proofs.Common.{ap, subst, ◌∙◌, arith}
 use Rattle.std.proofs.lemmas.Bool.Decides.{nat_tests}
 use Rattle.std.proofs.lemmas.Bool.{lt-ltb, le-leb}
-use Rattle.std.specs.Prelude.{is_none, nat_lt, nat_le}
+use Rattle.std.specs.Prelude.{option_and_then, is_none, nat_lt, nat_le}
 use Rattle.std.specs.Bool.{then_some}
 use Rattle.std.specs.Option.{option_or}
 use Rattle.ldp_design.specs.declared.axis.AxisName.{AxisName}
@@ -16,9 +16,10 @@ use Rattle.ldp_design.specs.declared.node.Node.{Node}
 use Rattle.ldp_design.specs.Families.{AreGrids}
 use Rattle.ldp_design.specs.Designs.{index_of, IsAdmitted}
 use Rattle.ldp_design.specs.Boxes.{span_of, is_single, IsIn, IsSingle, LiesIn, first_of}
-use Rattle.ldp_design.specs.Splits.{parts_at, IsCut}
+use Rattle.ldp_design.specs.Splits.{parts_at, IsCut, family_cut, middle}
+use Rattle.ldp_design.specs.Measures.{widest}
 use Rattle.ldp_design.proofs.Cuts.{cuts_part}
-use Rattle.ldp_design.proofs.Splits.{splits_cut}
+use Rattle.ldp_design.proofs.Splits.{splits_cut, singles_end}
 use Rattle.ldp_design.proofs.Wholes.{boxes_are_admitted}
 use Rattle.ldp_problem.specs.declared.pair.Pair.{Pair}
 use Rattle.ldp_problem.specs.Problem.{Problem, IsSound}
@@ -76,24 +77,14 @@ usable_when : (p : Problem) (b : DesignBox) → is_single b ≡ true → unusabl
 usable_when p b s u =
     sym (ap (λ t. cond {A = Option ℕ} t (first_undefined p (first_of b)) None) s) ∙ u
 
-one_index : (h i j k l m n o : ℕ) → ((h == i && j == k) && (l == m && n == o)) ≡ true
-    → (h ≡ i) × (j ≡ k) × (l ≡ m) × (n ≡ o)
-one_index h i j k l m n o t = (
-  grind (arith, nat_tests),
-  grind (arith, nat_tests),
-  grind (arith, nat_tests),
-  grind (arith, nat_tests),
-)
-
-single_of : (b : DesignBox) → is_single b ≡ true → IsSingle b
-single_of b t =
-    let same =
-    one_index b.lat.lo b.lat.hi b.lon.lo b.lon.hi b.azimuth.lo b.azimuth.hi
-    b.scale.lo b.scale.hi t in
-    record {
-      one = λ a. elim a as (λ x. (span_of x b).lo ≡ (span_of x b).hi)
-          [ Lat ↦ same.0 | Lon ↦ same.1 | Azimuth ↦ same.2 | Scale ↦ same.3 ];
-    }
+single_of : (families : List Family) (b : DesignBox) → LiesIn families b → is_single b ≡ true
+    → IsSingle b
+unfolding family_cut
+single_of families b h t =
+    (singles_end families b h).0
+    (ap (option_and_then (λ f. family_cut f b)) h.found
+    ∙ ap (λ u. cond {A = Option (AxisName × ℕ)} u None
+    (Some (widest h.family b, middle (widest h.family b) b))) t)
 
 -- an entry `Unusable`
 sound_unusable : (p : Problem) (w : Pair) (line cell : ℕ) (b : DesignBox)
@@ -123,16 +114,18 @@ closed_shows p w b sound l h u t = by_test (is_single b) refl t
         → AtMost w (bound p b)
     by_test false s above = smaller_at_most w (bound p b) above
     by_test true s any =
-        let same = single_exact p b sound h (single_of b s) in
+        let same = single_exact p b sound h (single_of p.families b h s) in
         subst (AtMost w) (sym same.0)
-        (l.least (first_of b) (boxes_are_admitted p.families b (first_of b) h (first_in p.families b h))
+        (l.least (first_of b)
+        (boxes_are_admitted p.families b (first_of b) h (first_in p.families b h))
         (none_undefined p (first_of b) (usable_when p b s u)))
 
 -- an entry `Leaf` at the cell of the bound
 not_open : (tolerance : Option ℕ) (w shown : Pair) (line : ℕ) → (tolerance ≡ None → w.over ≡ 0)
     → (tolerance ≡ None → shown.over ≡ 0) → AtMost w shown
     → open_fault tolerance w line shown ≡ None
-not_open None w shown line e f h = no_fault (nat_lt shown.value w.value) (not_less w shown (e refl) (f refl) h)
+not_open None w shown line e f h =
+    no_fault (nat_lt shown.value w.value) (not_less w shown (e refl) (f refl) h)
   where
     not_less : (a b : Pair) → a.over ≡ 0 → b.over ≡ 0 → AtMost a b → nat_lt b.value a.value ≡ false
     not_less a b e f h = grind (arith, nat_tests)
@@ -145,7 +138,7 @@ not_open (Some t) w shown line e f h = no_fault (is_smaller shown w) h
         → then_some t (ShareOpen line shown.over (pos shown.value)) ≡ None
     no_fault t e = rw e refl
 
-none_beyond : (tolerance : Option ℕ) (values : List ℕ) → tolerance ≡ None
+pub none_beyond : (tolerance : Option ℕ) (values : List ℕ) → tolerance ≡ None
     → beyond tolerance values ≡ 0
 none_beyond None values e = refl
 none_beyond (Some t) values e = absurd cc
@@ -157,7 +150,8 @@ sound_leaf p w line b sound l h most =
     let cell = bound_at_cell p b sound.some_cell in
     let shown : leaf_pair p b (bound_cell p b) ≡ bound p b =
     ap (λ v. record { over = beyond p.tolerance (lows p b); value = v }) cell.1 in
-    ap (λ t. cond {A = Option Reason} t (open_fault p.tolerance w line (leaf_pair p b (bound_cell p b))) (Some (NoSuchCell line)))
+    ap (λ t. cond {A = Option Reason} t
+    (open_fault p.tolerance w line (leaf_pair p b (bound_cell p b))) (Some (NoSuchCell line)))
     (lt-ltb (bound_cell p b) p.cells cell.0)
     ∙ not_open p.tolerance w (leaf_pair p b (bound_cell p b)) line l.uncounted
     (none_beyond p.tolerance (lows p b)) (subst (AtMost w) (sym shown) most)
@@ -176,7 +170,8 @@ pub first_none : {o q : Option Reason} → o ≡ None → q ≡ None → option_
 first_none {o = o} {q = q} e f = rw (e, f) refl
 
 -- the nodes of a box, and then the others
-pub walked : (p : Problem) (w : Pair) (b : DesignBox) (nodes entries : List Node) (trees : ℕ) (boxes : List DesignBox)
+pub walked : (p : Problem) (w : Pair) (b : DesignBox) (nodes entries : List Node) (trees : ℕ)
+    (boxes : List DesignBox)
     → IsSound p → AreGrids p.families → IsLeast p w → LiesIn p.families b
     → IsTreeOf p (Some w) b nodes
     → NoFault p w entries trees boxes → NoFault p w (nodes ++ entries) trees (b ∷ boxes)
@@ -184,11 +179,15 @@ unfolding NoFault
 walked p w _ _ entries trees boxes sound g l h (undefined b cell u) later line =
     first_none (sound_unusable p w line cell b u) (later (line + 1))
 walked p w _ _ entries trees boxes sound g l h (closed b u t) later line =
-    first_none (sound_leaf p w line b sound l h (closed_shows p w b sound l h u t)) (later (line + 1))
-walked p w _ _ entries trees boxes sound g l h (parted b axis at low high a c first second) later line =
+    first_none (sound_leaf p w line b sound l h (closed_shows p w b sound l h u t))
+    (later (line + 1))
+walked p w _ _ entries trees boxes sound g l h (parted b axis at low high a c i j) later line =
     let cut = splits_cut p.families b axis at g h c in
     let parts = cuts_part p.families b axis at h cut in
     first_none (sound_split line axis at b cut)
-    (subst (λ ns. NoFault p w ns trees ((parts_at axis at b).0 ∷ (parts_at axis at b).1 ∷ boxes)) (sym (append_assoc low high entries))
-    (walked p w (parts_at axis at b).0 low (high ++ entries) trees ((parts_at axis at b).1 ∷ boxes) sound g l parts.low_lies first
-    (walked p w (parts_at axis at b).1 high entries trees boxes sound g l parts.high_lies second later)) (line + 1))
+    (subst (λ ns. NoFault p w ns trees ((parts_at axis at b).0 ∷ (parts_at axis at b).1 ∷ boxes))
+    (sym (append_assoc low high entries))
+    (walked p w (parts_at axis at b).0 low (high ++ entries) trees ((parts_at axis at b).1 ∷ boxes)
+    sound g l parts.low_lies i
+    (walked p w (parts_at axis at b).1 high entries trees boxes sound g l parts.high_lies j later))
+    (line + 1))

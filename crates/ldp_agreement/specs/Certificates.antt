@@ -22,12 +22,14 @@ share_of tolerance over = option_map (λ t. record { over = over; tolerance = po
 -- the certificate of a design: the names of these files or none, the design, its cost, its report
 -- at the first cell of its worst distortion with the number of nodes of the canonical forest, and
 -- that forest
-pub record IsCertificateOf (p : Problem) (list : CellList) (present : Names) (x : Ranked) (job : Job) : Type 0 where
+pub record IsCertificateOf (p : Problem) (list : CellList) (present : Names) (x : Ranked)
+    (job : Job) : Type 0 where
   pub names : (job.names ≡ None) ⊎ (job.names ≡ Some present)
   pub design : job.design ≡ x.design
   pub worst : job.worst ≡ pos x.cost.value
   pub share : job.share ≡ share_of p.tolerance x.cost.over
-  pub report : report_of p.families list x.design (pos x.cost.value) (worst_cell p x.design) (needed p) ≡ Some job.report
+  pub report : report_of p.families list x.design (pos x.cost.value) (worst_cell p x.design)
+      (needed p) ≡ Some job.report
   pub forest : job.forest ≡ forest p
 
 -- the certificate of the best design is accepted

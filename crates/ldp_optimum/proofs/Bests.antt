@@ -26,7 +26,8 @@ pub usable_ranked : (p : Problem) (d : Design) → IsUsable p d
 usable_ranked p d usable = ranked_at (first_undefined p d) (usable_has_none p d usable)
   where
     ranked_at : (o : Option ℕ) → o ≡ None
-        → cond {A = Option Ranked} (is_none o) (Some record { design = d; cost = cost p d }) None ≡ Some record { design = d; cost = cost p d }
+        → cond {A = Option Ranked} (is_none o) (Some record { design = d; cost = cost p d }) None
+        ≡ Some record { design = d; cost = cost p d }
     ranked_at None e = refl
     ranked_at (Some c) e = absurd cc
 
@@ -34,10 +35,15 @@ pub ranked_usable : (p : Problem) (d : Design) (x : Ranked) → rank p d ≡ Som
 ranked_usable p d x e = ranked_at (first_undefined p d) refl e
   where
     ranked_at : (o : Option ℕ) → first_undefined p d ≡ o
-        → cond {A = Option Ranked} (is_none o) (Some record { design = d; cost = cost p d }) None ≡ Some x → IsRankOf p d x
+        → cond {A = Option Ranked} (is_none o) (Some record { design = d; cost = cost p d }) None
+        ≡ Some x → IsRankOf p d x
     ranked_at None u h =
         let same : record { design = d; cost = cost p d } ≡ x = cc in
-        record { usable = none_undefined p d u; design = ap (λ r. r.design) (sym same); cost = ap (λ r. r.cost) (sym same) }
+        record {
+          usable = none_undefined p d u;
+          design = ap (λ r. r.design) (sym same);
+          cost = ap (λ r. r.cost) (sym same);
+        }
     ranked_at (Some c) u h = absurd cc
 
 -- the best so far is one of the list
@@ -93,7 +99,8 @@ ranked_of p = filter_map (rank p) (all_designs p.families)
 ranked_listed : (p : Problem) (x : Ranked) → IsRanked p x → Member x (ranked_of p)
 unfolding ranked_of
 ranked_listed p x r =
-    kept (rank p) x.design x (all_designs p.families) (admitted_listed p.families x.design r.admitted) r.ranked
+    kept (rank p) x.design x (all_designs p.families)
+    (admitted_listed p.families x.design r.admitted) r.ranked
 
 listed_ranked : (p : Problem) (x : Ranked) → Member x (ranked_of p) → IsRanked p x
 unfolding ranked_of
@@ -101,7 +108,8 @@ listed_ranked p x m =
     let from = of_filter_map (rank p) x (all_designs p.families) m in
     let is : IsRankOf p from.source x = ranked_usable p from.source x from.gives in
     record {
-      admitted = subst (IsAdmitted p.families) (sym is.design) (listed_admitted p.families from.source from.has);
+      admitted = subst (IsAdmitted p.families) (sym is.design)
+          (listed_admitted p.families from.source from.has);
       ranked = ap (rank p) is.design ∙ from.gives;
     }
 
@@ -114,7 +122,8 @@ best_ranked p x e = listed_ranked p x (reduced_within (ranked_of p) x (sym (best
 
 pub best_beats : (p : Problem) (x y : Ranked) → best p ≡ Some x → IsRanked p y
     → is_better y x ≡ false
-best_beats p x y e r = reduced_unbeaten (ranked_of p) x y (sym (best_reduced p) ∙ e) (ranked_listed p y r)
+best_beats p x y e r =
+    reduced_unbeaten (ranked_of p) x y (sym (best_reduced p) ∙ e) (ranked_listed p y r)
 
 admitted_ranked : (p : Problem) (d : Design) → IsAdmitted p.families d → IsUsable p d
     → IsRanked p record { design = d; cost = cost p d }

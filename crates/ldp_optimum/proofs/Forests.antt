@@ -44,11 +44,13 @@ take_numbered n (suc k) (g ∷ fs) f e =
     ap (λ qs. (n, g) ∷ qs) later
 
 trees_append : (p : Problem) (qs rs : List (ℕ × Family))
-    → flat_map (family_tree p) (qs ++ rs) ≡ flat_map (family_tree p) qs ++ flat_map (family_tree p) rs
+    → flat_map (family_tree p) (qs ++ rs)
+    ≡ flat_map (family_tree p) qs ++ flat_map (family_tree p) rs
 trees_append p [] rs = refl
 trees_append p (q ∷ qs) rs =
     ap (λ rest. family_tree p q ++ rest) (trees_append p qs rs)
-    ∙ sym (append_assoc (family_tree p q) (flat_map (family_tree p) qs) (flat_map (family_tree p) rs))
+    ∙ sym (append_assoc (family_tree p q) (flat_map (family_tree p) qs)
+    (flat_map (family_tree p) rs))
 
 append_nil : (xs : List Node) → xs ++ [] ≡ xs
 append_nil [] = refl
@@ -73,13 +75,15 @@ has_whole p count whole e = by_family (slice_get p.families count) refl e
 
 pub next_tree : (p : Problem) (count : ℕ) (whole : DesignBox)
     → whole_of p.families (suc count) ≡ Some whole
-    → first_trees p (suc count) ≡ first_trees p count ++ Tree (suc count) ∷ tree_of p (least p) whole
+    → first_trees p (suc count)
+    ≡ first_trees p count ++ Tree (suc count) ∷ tree_of p (least p) whole
 next_tree p count whole e =
     let has = has_whole p count whole e in
     let number : 1 + count ≡ suc count = omega arith in
     ap (flat_map (family_tree p)) (take_numbered 1 count p.families has.family has.stands)
     ∙ trees_append p (take count (enumerate_from 1 p.families)) ((1 + count, has.family) ∷ [])
-    ∙ ap (λ nodes. first_trees p count ++ nodes) (append_nil (family_tree p (1 + count, has.family)))
+    ∙ ap (λ nodes. first_trees p count ++ nodes)
+    (append_nil (family_tree p (1 + count, has.family)))
     ∙ ap (λ n. first_trees p count ++ family_tree p (n, has.family)) number
     ∙ ap (λ b. first_trees p count ++ Tree (suc count) ∷ tree_of p (least p) b) has.is
 
@@ -91,11 +95,13 @@ nodes_tree number xs = omega (arith, sum_by-cons (λ x. cond (is_node x) 1 0) (T
 
 pub next_tree_counts : (p : Problem) (count : ℕ) (whole : DesignBox)
     → whole_of p.families (suc count) ≡ Some whole
-    → node_count (first_trees p (suc count)) ≡ node_count (first_trees p count) + node_count (tree_of p (least p) whole)
+    → node_count (first_trees p (suc count))
+    ≡ node_count (first_trees p count) + node_count (tree_of p (least p) whole)
 next_tree_counts p count whole e =
     ap node_count (next_tree p count whole e)
     ∙ nodes_append (first_trees p count) (Tree (suc count) ∷ tree_of p (least p) whole)
-    ∙ ap (λ n. node_count (first_trees p count) + n) (nodes_tree (suc count) (tree_of p (least p) whole))
+    ∙ ap (λ n. node_count (first_trees p count) + n)
+    (nodes_tree (suc count) (tree_of p (least p) whole))
 
 take_whole : (n : ℕ) (fs : List Family)
     → take (length fs) (enumerate_from n fs) ≡ enumerate_from n fs
@@ -107,7 +113,8 @@ unfolding forest
 all_trees p = ap (flat_map (family_tree p)) (take_whole 1 p.families)
 
 fewer : (p : Problem) (count : ℕ) (qs : List (ℕ × Family))
-    → node_count (flat_map (family_tree p) (take count qs)) ≤ node_count (flat_map (family_tree p) qs)
+    → node_count (flat_map (family_tree p) (take count qs))
+    ≤ node_count (flat_map (family_tree p) qs)
 fewer p zero qs = omega arith
 fewer p (suc count) [] = omega arith
 fewer p (suc count) (q ∷ qs) =
@@ -133,7 +140,8 @@ numbered_whole p q g m =
     let at = of_enumerate 1 q p.families m in
     let number : suc at.place ≡ q.0 = omega (arith, at.number) in
     wholes_hold p.families q.0 (whole_box q.0 q.1) g
-    (subst (λ n. option_map (whole_box q.0) (family_of p.families n) ≡ Some (whole_box q.0 q.1)) number
+    (subst (λ n. option_map (whole_box q.0) (family_of p.families n) ≡ Some (whole_box q.0 q.1))
+    number
     (ap (option_map (whole_box q.0)) at.stands))
 
 wholes_lie : (p : Problem) → AreGrids p.families → AreWholes p (enumerate_from 1 p.families)
@@ -146,7 +154,8 @@ unfolding AreWholes
 grown_forest p [] g h = none
 grown_forest p (q ∷ qs) g h =
     grown q.0 (tree_of p (least p) (whole_box q.0 q.1)) (flat_map (family_tree p) qs)
-    (complete p (least p) (whole_box q.0 q.1) _ (trees_are_trees p (least p) (whole_box q.0 q.1) g (h q (inl refl))))
+    (complete p (least p) (whole_box q.0 q.1) _
+    (trees_are_trees p (least p) (whole_box q.0 q.1) g (h q (inl refl))))
     (grown_forest p qs g (λ r m. h r (inr m)))
 
 pub forest_is_shaped : (p : Problem) → AreGrids p.families → is_shaped (forest p) 0 ≡ true

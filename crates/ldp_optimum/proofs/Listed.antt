@@ -45,8 +45,10 @@ listed_of number f d m =
       record {
         lat = subst (λ x. x.lat < f.lat.count) scale.gives (below f.lat.count lat.source lat.has);
         lon = subst (λ x. x.lon < f.lon.count) scale.gives (below f.lon.count lon.source lon.has);
-        azimuth = subst (λ x. x.azimuth < f.azimuth.count) scale.gives (below f.azimuth.count azimuth.source azimuth.has);
-        scale = subst (λ x. x.scale < f.scale.count) scale.gives (below f.scale.count scale.source scale.has);
+        azimuth = subst (λ x. x.azimuth < f.azimuth.count) scale.gives
+            (below f.azimuth.count azimuth.source azimuth.has);
+        scale = subst (λ x. x.scale < f.scale.count) scale.gives
+            (below f.scale.count scale.source scale.has);
       },
     )
 
@@ -79,6 +81,7 @@ listed_admitted families d m =
     let within = listed_of from.source.0 from.source.1 d from.gives in
     record {
       family = from.source.1;
-      found = family_at families d.family stands.place from.source.1 (within.0 ∙ stands.number) stands.stands;
+      found = family_at families d.family stands.place from.source.1 (within.0 ∙ stands.number)
+          stands.stands;
       within = within.1;
     }

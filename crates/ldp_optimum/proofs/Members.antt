@@ -55,7 +55,8 @@ of_map f y (x ∷ xs) (inr m) = from_later (λ u z. f u ≡ z) x xs y (of_map f 
 pub flat_mapped : {A B : Type 0} (f : A → List B) (x : A) (y : B) (xs : List A) → Member x xs
     → Member y (f x) → Member y (flat_map f xs)
 flat_mapped f x y [] m n = absurd m
-flat_mapped f x y (z ∷ xs) (inl e) n = in_left y (f z) (flat_map f xs) (subst (λ u. Member y (f u)) (sym e) n)
+flat_mapped f x y (z ∷ xs) (inl e) n =
+    in_left y (f z) (flat_map f xs) (subst (λ u. Member y (f u)) (sym e) n)
 flat_mapped f x y (z ∷ xs) (inr m) n = in_right y (f z) (flat_map f xs) (flat_mapped f x y xs m n)
 
 of_first : {A B : Type 0} (f : A → List B) (y : B) (x : A) (xs : List A)
@@ -67,7 +68,8 @@ of_first f y x xs later (inr r) = from_later (λ u z. Member z (f u)) x xs y (la
 pub of_flat_map : {A B : Type 0} (f : A → List B) (y : B) (xs : List A) → Member y (flat_map f xs)
     → ComesFrom (λ x z. Member z (f x)) xs y
 of_flat_map f y [] m = absurd m
-of_flat_map f y (x ∷ xs) m = of_first f y x xs (of_flat_map f y xs) (in_either y (f x) (flat_map f xs) m)
+of_flat_map f y (x ∷ xs) m =
+    of_first f y x xs (of_flat_map f y xs) (in_either y (f x) (flat_map f xs) m)
 
 kept_past : {B : Type 0} (y : B) (ys : List B) (o : Option B) → Member y ys
     → Member y (cons_option o ys)
@@ -85,7 +87,8 @@ of_kept : {A B : Type 0} (f : A → Option B) (y : B) (x : A) (xs : List A) (o :
     → (Member y (filter_map f xs) → ComesFrom (λ u z. f u ≡ Some z) xs y)
     → Member y (cons_option o (filter_map f xs)) → ComesFrom (λ u z. f u ≡ Some z) (x ∷ xs) y
 of_kept f y x xs None e later m = from_later (λ u z. f u ≡ Some z) x xs y (later m)
-of_kept f y x xs (Some u) e later (inl h) = record { source = x; has = inl refl; gives = e ∙ ap Some h }
+of_kept f y x xs (Some u) e later (inl h) =
+    record { source = x; has = inl refl; gives = e ∙ ap Some h }
 of_kept f y x xs (Some u) e later (inr m) = from_later (λ v z. f v ≡ Some z) x xs y (later m)
 
 pub of_filter_map : {A B : Type 0} (f : A → Option B) (y : B) (xs : List A)
@@ -102,7 +105,8 @@ first_or_later i j h = by_order (cases_lt i j)
 
 pub ranged : (a n k : ℕ) → a ≤ k → k < a + n → Member k (range_with_len a n)
 ranged a zero k h l = absurd (omega arith)
-ranged a (suc n) k h l = by_place (first_or_later a k h) (λ later. ranged (a + 1) n k later (omega arith))
+ranged a (suc n) k h l =
+    by_place (first_or_later a k h) (λ later. ranged (a + 1) n k later (omega arith))
   where
     by_place : (a ≡ k) ⊎ (a + 1 ≤ k) → (a + 1 ≤ k → Member k (range_with_len (a + 1) n))
         → Member k (range_with_len a (suc n))
@@ -112,7 +116,8 @@ ranged a (suc n) k h l = by_place (first_or_later a k h) (λ later. ranged (a + 
 pub of_range : (a n k : ℕ) → Member k (range_with_len a n) → (a ≤ k) × (k < a + n)
 of_range a zero k m = absurd m
 of_range a (suc n) k (inl e) = (omega arith, omega arith)
-of_range a (suc n) k (inr m) = let later = of_range (a + 1) n k m in (omega (arith, later.0), omega (arith, later.1))
+of_range a (suc n) k (inr m) =
+    let later = of_range (a + 1) n k m in (omega (arith, later.0), omega (arith, later.1))
 
 pub numbered : {A : Type 0} (n i : ℕ) (x : A) (xs : List A) → slice_get xs i ≡ Some x
     → Member (n + i, x) (enumerate_from n xs)

@@ -13,7 +13,8 @@ use Rattle.ldp_problem.specs.Pairs.{pair_cmp}
 use Rattle.ldp_optimum.specs.Best.{Ranked, ranked_cmp, is_better}
 
 pub pair_total : IsTotalOrder pair_cmp
-pair_total = then_total (on_total (λ a. a.over) nat_cmp_total) (on_total (λ a. a.value) nat_cmp_total)
+pair_total = then_total (on_total (λ a. a.over) nat_cmp_total)
+    (on_total (λ a. a.value) nat_cmp_total)
 
 design_total : IsTotalOrder design_cmp
 design_total =
@@ -23,7 +24,8 @@ design_total =
     (then_total (on_total (λ d. d.azimuth) nat_cmp_total) (on_total (λ d. d.scale) nat_cmp_total))))
 
 pub ranked_total : IsTotalOrder ranked_cmp
-ranked_total = then_total (on_total (λ x. x.cost) pair_total) (on_total (λ x. x.design) design_total)
+ranked_total = then_total (on_total (λ x. x.cost) pair_total)
+    (on_total (λ x. x.design) design_total)
 
 pub better_weak : IsStrictWeakOrder is_better
 better_weak = ranks_by ranked_total (λ x. x)
@@ -54,7 +56,8 @@ same_design d e h =
     ap (λ n. record d { family = n }) (same_number d.family e.family family.0)
     ∙ ap (λ n. record d { family = e.family; lat = n }) (same_number d.lat e.lat lat.0)
     ∙ ap (λ n. record d { family = e.family; lat = e.lat; lon = n }) (same_number d.lon e.lon lon.0)
-    ∙ ap (λ n. record e { azimuth = n; scale = d.scale }) (same_number d.azimuth e.azimuth azimuth.0)
+    ∙ ap (λ n. record e { azimuth = n; scale = d.scale })
+    (same_number d.azimuth e.azimuth azimuth.0)
     ∙ ap (λ n. record e { scale = n }) (same_number d.scale e.scale azimuth.1)
 
 neither : (o : Ordering) → is_lt o ≡ false → is_lt (ordering_reverse o) ≡ false → o ≡ Equal

@@ -27,7 +27,8 @@ joined_length f each same a (suc n) =
 
 -- the designs of a family
 designs_count : (number : ℕ) (f : Family)
-    → length (designs_of (number, f)) ≡ f.lat.count * (f.lon.count * (f.azimuth.count * f.scale.count))
+    → length (designs_of (number, f))
+    ≡ f.lat.count * (f.lon.count * (f.azimuth.count * f.scale.count))
 designs_count number f =
     joined_length _ (f.lon.count * (f.azimuth.count * f.scale.count))
     (λ lat. joined_length _ (f.azimuth.count * f.scale.count)
@@ -81,18 +82,22 @@ trees_nodes p (q ∷ qs) g h =
     let tree = trees_have_nodes p (least p) (whole_box q.0 q.1) g first.lies in
     let others = trees_nodes p qs g (λ r m. h r (inr m)) in
     let nodes : node_count (flat_map (family_tree p) (q ∷ qs))
-    ≡ node_count (tree_of p (least p) (whole_box q.0 q.1)) + node_count (flat_map (family_tree p) qs) =
+    ≡ node_count (tree_of p (least p) (whole_box q.0 q.1))
+    + node_count (flat_map (family_tree p) qs) =
     nodes_append (family_tree p q) (flat_map (family_tree p) qs)
-    ∙ ap (λ n. n + node_count (flat_map (family_tree p) qs)) (nodes_tree q.0 (tree_of p (least p) (whole_box q.0 q.1))) in
+    ∙ ap (λ n. n + node_count (flat_map (family_tree p) qs))
+    (nodes_tree q.0 (tree_of p (least p) (whole_box q.0 q.1))) in
     let designs = length-append (designs_of q) (flat_map designs_of qs) in (
       omega (arith, nodes, tree.0, others.0),
       omega (arith, nodes, tree.1, others.1, first.designs, designs),
     )
 
 pub forest_has_nodes : (p : Problem) → AreGrids p.families
-    → (length p.families ≤ needed p) × (needed p + length p.families ≤ 2 * length (all_designs p.families))
+    → (length p.families ≤ needed p)
+    × (needed p + length p.families ≤ 2 * length (all_designs p.families))
 unfolding forest
 forest_has_nodes p g =
     let both = trees_nodes p (enumerate_from 1 p.families) g (λ q m. numbered_designs p q g m) in
-    let count : length (enumerate_from 1 p.families) ≡ length p.families = length-enumerate_from 1 p.families in
+    let count : length (enumerate_from 1 p.families) ≡ length p.families =
+    length-enumerate_from 1 p.families in
     (omega (arith, both.0, count), omega (arith, both.1, count))

@@ -1,23 +1,23 @@
 -- The tree of a box.
 use Rattle.std.proofs.Common.{◌≡◌, ◌≤◌, ◌<◌, ◌+◌, ◌*◌, ℕ, zero, suc, Bool, true, false, cond, ◌||◌}
-use Rattle.std.proofs.Common.{◌&&◌, ◌==◌, List, [], ◌∷◌, ◌++◌, Option, None, Some, refl, sym, ap}
+use Rattle.std.proofs.Common.{List, [], ◌∷◌, ◌++◌, Option, None, Some, refl, sym, ap}
 use Rattle.std.proofs.Common.{subst, ◌∙◌, arith}
 use Rattle.std.proofs.Math.Nat.{mul-pos}
-use Rattle.std.proofs.lemmas.Bool.Decides.{nat_tests}
 use Rattle.std.proofs.lemmas.List.Sums.{sum_by-cons, sum_by-append}
 use Rattle.ldp_design.specs.declared.axis.AxisName.{AxisName}
-use Rattle.ldp_design.specs.declared.axis.AxisName.TheVariants.{Lat, Lon, Azimuth, Scale}
 use Rattle.ldp_design.specs.declared.family.Family.{Family}
 use Rattle.ldp_design.specs.declared.design_box.DesignBox.{DesignBox}
 use Rattle.ldp_design.specs.declared.node.Node.{Node}
 use Rattle.ldp_design.specs.declared.node.Node.TheVariants.{Split, Leaf, Unusable}
 use Rattle.ldp_design.specs.Families.{AreGrids}
-use Rattle.ldp_design.specs.Boxes.{is_single, size, LiesIn, IsSingle, first_of, span_of}
-use Rattle.ldp_design.specs.Splits.{cut_for, parts_at, AreParts}
+use Rattle.ldp_design.specs.Measures.{widest}
+use Rattle.std.specs.Prelude.{option_and_then}
+use Rattle.ldp_design.specs.Boxes.{is_single, size, LiesIn, first_of}
+use Rattle.ldp_design.specs.Splits.{family_cut, middle, cut_for, parts_at, AreParts}
 use Rattle.ldp_design.specs.Forests.{node_count, is_node}
 use Rattle.ldp_design.specs.Shapes.{IsTree, closed, undefined, parted}
 use Rattle.ldp_design.proofs.Cuts.{cuts_part}
-use Rattle.ldp_design.proofs.Splits.{splits_cut, singles_end}
+use Rattle.ldp_design.proofs.Splits.{splits_cut}
 use Rattle.ldp_problem.specs.declared.pair.Pair.{Pair}
 use Rattle.ldp_problem.specs.Problem.{Problem}
 use Rattle.ldp_problem.specs.Costs.{bound, bound_cell, unusable_at, first_undefined}
@@ -34,11 +34,14 @@ pub parts_of : (families : List Family) (b : DesignBox) (axis : AxisName) (at : 
     → AreGrids families
     → LiesIn families b → cut_for families b ≡ Some (axis, at)
     → AreParts families b (parts_at axis at b).0 (parts_at axis at b).1
-parts_of families b axis at g h e = cuts_part families b axis at h (splits_cut families b axis at g h e)
+parts_of families b axis at g h e =
+    cuts_part families b axis at h (splits_cut families b axis at g h e)
 
-grown_same : (o : Option Node) (cut : Option (AxisName × ℕ)) (b : DesignBox) (f g : DesignBox → List Node)
+grown_same : (o : Option Node) (cut : Option (AxisName × ℕ)) (b : DesignBox)
+    (f g : DesignBox → List Node)
     → ((axis : AxisName) (at : ℕ) → cut ≡ Some (axis, at)
-    → (f (parts_at axis at b).0 ≡ g (parts_at axis at b).0) × (f (parts_at axis at b).1 ≡ g (parts_at axis at b).1))
+    → (f (parts_at axis at b).0 ≡ g (parts_at axis at b).0)
+    × (f (parts_at axis at b).1 ≡ g (parts_at axis at b).1))
     → grown o cut b f ≡ grown o cut b g
 grown_same (Some node) cut b f g same = refl
 grown_same None None b f g same = refl
@@ -87,33 +90,16 @@ tree_closed p w b e t =
     (ap (λ o. end_node o (is_single b || is_above (bound p b) w) (bound_cell p b)) e
     ∙ ap (λ c. end_node None c (bound_cell p b)) t)
 
-one_index : (h i j k l m n o : ℕ) → ((h == i && j == k) && (l == m && n == o)) ≡ true
-    → (h ≡ i) × (j ≡ k) × (l ≡ m) × (n ≡ o)
-one_index h i j k l m n o t = (
-  grind (arith, nat_tests),
-  grind (arith, nat_tests),
-  grind (arith, nat_tests),
-  grind (arith, nat_tests),
-)
-
-pub single_of : (b : DesignBox) → is_single b ≡ true → IsSingle b
-single_of b t =
-    let same =
-    one_index b.lat.lo b.lat.hi b.lon.lo b.lon.hi b.azimuth.lo b.azimuth.hi
-    b.scale.lo b.scale.hi t in
-    record {
-      one = λ a. elim a as (λ x. (span_of x b).lo ≡ (span_of x b).hi)
-          [ Lat ↦ same.0 | Lon ↦ same.1 | Azimuth ↦ same.2 | Scale ↦ same.3 ];
-    }
-
-one_indices : (h i j k l m n o : ℕ) → h ≡ i → j ≡ k → l ≡ m → n ≡ o
-    → ((h == i && j == k) && (l == m && n == o)) ≡ true
-one_indices h i j k l m n o a b c d = grind (arith, nat_tests)
-
-pub single_is : (b : DesignBox) → IsSingle b → is_single b ≡ true
-single_is b s =
-    one_indices b.lat.lo b.lat.hi b.lon.lo b.lon.hi b.azimuth.lo b.azimuth.hi b.scale.lo b.scale.hi
-    (s.one Lat) (s.one Lon) (s.one Azimuth) (s.one Scale)
+-- a single is not cut, and any other box is
+cut_by : (families : List Family) (b : DesignBox) (t : Bool) (h : LiesIn families b)
+    → is_single b ≡ t
+    → cut_for families b
+    ≡ cond t None (Some (widest h.family b, middle (widest h.family b) b))
+unfolding family_cut
+cut_by families b t h e =
+    ap (option_and_then (λ f. family_cut f b)) h.found
+    ∙ ap (λ u. cond {A = Option (AxisName × ℕ)} u None
+    (Some (widest h.family b, middle (widest h.family b) b))) e
 
 -- a box that is split is no single
 pub no_single : (families : List Family) (b : DesignBox) (cut : AxisName × ℕ) → LiesIn families b
@@ -122,7 +108,7 @@ no_single families b cut h e = by_test (is_single b) refl
   where
     by_test : (t : Bool) → is_single b ≡ t → is_single b ≡ false
     by_test true s =
-        let none : cut_for families b ≡ None = (singles_end families b h).1 (single_of b s) in
+        let none : cut_for families b ≡ None = cut_by families b true h s in
         absurd cc
     by_test false s = s
 
@@ -132,14 +118,16 @@ usable_many p b s = ap (λ t. cond {A = Option ℕ} t (first_undefined p (first_
 pub split_open : (p : Problem) (w : Option Pair) (b : DesignBox) → is_single b ≡ false
     → is_above (bound p b) w ≡ false → end_of p w b ≡ None
 split_open p w b s a =
-    ap (λ o. end_node o (is_single b || is_above (bound p b) w) (bound_cell p b)) (usable_many p b s)
+    ap (λ o. end_node o (is_single b || is_above (bound p b) w) (bound_cell p b))
+    (usable_many p b s)
     ∙ ap (λ t. end_node None (t || is_above (bound p b) w) (bound_cell p b)) s
     ∙ ap (λ t. end_node None (false || t) (bound_cell p b)) a
 
 split_within : (p : Problem) (w : Option Pair) (n : ℕ) (b : DesignBox) (axis : AxisName) (at : ℕ)
     → AreGrids p.families → LiesIn p.families b → size b ≤ n → end_of p w b ≡ None
     → cut_for p.families b ≡ Some (axis, at)
-    → tree_within p w n b ≡ Split axis at ∷ (tree_of p w (parts_at axis at b).0 ++ tree_of p w (parts_at axis at b).1)
+    → tree_within p w n b
+    ≡ Split axis at ∷ (tree_of p w (parts_at axis at b).0 ++ tree_of p w (parts_at axis at b).1)
 split_within p w zero b axis at g h i e c = absurd (omega (arith, some_size b))
 split_within p w (suc n) b axis at g h i e c =
     let parts = parts_of p.families b axis at g h c in
@@ -148,12 +136,14 @@ split_within p w (suc n) b axis at g h i e c =
     ∙ ap (λ low. Split axis at ∷ (low ++ tree_within p w n (parts_at axis at b).1))
     (whole_within p w n (parts_at axis at b).0 g parts.low_lies (omega (arith, parts.low_smaller)))
     ∙ ap (λ high. Split axis at ∷ (tree_of p w (parts_at axis at b).0 ++ high))
-    (whole_within p w n (parts_at axis at b).1 g parts.high_lies (omega (arith, parts.high_smaller)))
+    (whole_within p w n (parts_at axis at b).1 g parts.high_lies
+    (omega (arith, parts.high_smaller)))
 
 pub tree_split : (p : Problem) (w : Option Pair) (b : DesignBox) (axis : AxisName) (at : ℕ)
     → AreGrids p.families → LiesIn p.families b → is_above (bound p b) w ≡ false
     → cut_for p.families b ≡ Some (axis, at)
-    → tree_of p w b ≡ Split axis at ∷ (tree_of p w (parts_at axis at b).0 ++ tree_of p w (parts_at axis at b).1)
+    → tree_of p w b
+    ≡ Split axis at ∷ (tree_of p w (parts_at axis at b).0 ++ tree_of p w (parts_at axis at b).1)
 tree_split p w b axis at g h a c =
     sym (whole_within p w (size b) b g h (omega arith))
     ∙ split_within p w (size b) b axis at g h (omega arith)
@@ -170,7 +160,9 @@ fate_open : (p : Problem) (w : Option Pair) (b : DesignBox) (cut : Option (AxisN
     → LiesIn p.families b → is_single b ≡ false → is_above (bound p b) w ≡ false
     → cut_for p.families b ≡ cut → Fate p w b
 fate_open p w b None h s a c =
-    let single : is_single b ≡ true = single_is b ((singles_end p.families b h).0 c) in absurd cc
+    let some : cut_for p.families b ≡ Some (widest h.family b, middle (widest h.family b) b) =
+    cut_by p.families b false h s in
+    absurd cc
 fate_open p w b (Some (axis, at)) h s a c = splits axis at a c
 
 pub fate : (p : Problem) (w : Option Pair) (b : DesignBox) → LiesIn p.families b → Fate p w b
@@ -194,7 +186,8 @@ tree_grown p w (suc n) b g h i = by_fate p w n b g h i (fate p w b h) (tree_grow
   where
     by_fate : (p : Problem) (w : Option Pair) (n : ℕ) (b : DesignBox) → AreGrids p.families
         → LiesIn p.families b → size b ≤ suc n → Fate p w b
-        → ((part : DesignBox) → AreGrids p.families → LiesIn p.families part → size part ≤ n → IsTreeOf p w part (tree_of p w part))
+        → ((part : DesignBox) → AreGrids p.families → LiesIn p.families part → size part ≤ n
+        → IsTreeOf p w part (tree_of p w part))
         → IsTreeOf p w b (tree_of p w b)
     by_fate p w n b g h i (ends_undefined cell u) grow =
         subst (IsTreeOf p w b) (sym (tree_unusable p w b cell u)) (trees.undefined b cell u)
@@ -216,7 +209,8 @@ pub complete : (p : Problem) (w : Option Pair) (b : DesignBox) (nodes : List Nod
     → IsTreeOf p w b nodes → IsTree nodes
 complete p w _ _ (trees.undefined b cell u) = undefined cell
 complete p w _ _ (trees.closed b u t) = closed (bound_cell p b)
-complete p w _ _ (trees.parted b axis at low high a c l h) = parted axis at low high (complete p w _ low l) (complete p w _ high h)
+complete p w _ _ (trees.parted b axis at low high a c l h) =
+    parted axis at low high (complete p w _ low l) (complete p w _ high h)
 
 pub split_counts : (axis : AxisName) (at : ℕ) (low high : List Node)
     → node_count (Split axis at ∷ (low ++ high)) ≡ 1 + node_count low + node_count high
@@ -235,8 +229,10 @@ counted p w _ _ g h (trees.closed b u t) = (omega arith, omega (arith, some_size
 counted p w _ _ g h (trees.parted b axis at low high a c l k) =
     let parts = parts_of p.families b axis at g h c in
     let first = counted p w (parts_at axis at b).0 low g parts.low_lies l in
-    let second = counted p w (parts_at axis at b).1 high g parts.high_lies k in
-    (omega (arith, split_counts axis at low high), omega (arith, split_counts axis at low high, first.1, second.1, parts.sizes))
+    let second = counted p w (parts_at axis at b).1 high g parts.high_lies k in (
+      omega (arith, split_counts axis at low high),
+      omega (arith, split_counts axis at low high, first.1, second.1, parts.sizes),
+    )
 
 pub trees_have_nodes : (p : Problem) (w : Option Pair) (b : DesignBox) → AreGrids p.families
     → LiesIn p.families b

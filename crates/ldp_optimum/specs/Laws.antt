@@ -54,11 +54,12 @@ ListedAreAdmitted =
     (families : List Family) (d : Design) → Contains (all_designs families) d
     → IsAdmitted families d
 
--- the best is an admissible usable design and its cost
+-- an admissible design that is usable, and its cost
 pub record IsRanked (p : Problem) (x : Ranked) : Type 0 where
   pub admitted : IsAdmitted p.families x.design
   pub ranked : rank p x.design ≡ Some x
 
+-- the best is one
 abbrev pub BestIsRanked : Type 0
 BestIsRanked = (p : Problem) (x : Ranked) → best p ≡ Some x → IsRanked p x
 
