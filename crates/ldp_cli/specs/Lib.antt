@@ -5,5 +5,7 @@ pub mod Readings
 pub mod Files
 pub mod ProblemFiles
 pub mod Eval
+pub mod Certificate
+pub mod Check
 pub mod Commands
 pub mod Ending
