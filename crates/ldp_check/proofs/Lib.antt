@@ -1,0 +1,9 @@
+mod Answered
+mod Boxes
+mod Counts
+mod Faults
+mod Walks
+mod Nodes
+mod Pairs
+mod Covered
+mod Verdicts

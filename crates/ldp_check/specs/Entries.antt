@@ -1,6 +1,6 @@
 -- The entries of a forest, each judged at its place: the trees that have begun, and the boxes whose
 -- nodes are still to come. (Own choice of this project.)
-use Rattle.std.specs.Prelude.{◌≡◌, ◌≤◌, ℕ, suc, pos, ◌+◌, ◌==◌, ◌&&◌, not, nat_lt, nat_le, length}
+use Rattle.std.specs.Prelude.{◌≤◌, ℕ, suc, pos, ◌+◌, ◌==◌, ◌&&◌, not, nat_lt, nat_le, length}
 use Rattle.std.specs.Prelude.{List, [], ◌∷◌, Option, None, Some, is_none, if◌then◌else◌}
 use Rattle.std.specs.Bool.{then_some}
 use Rattle.std.specs.Option.{option_or}
@@ -19,10 +19,9 @@ use Rattle.ldp_check.specs.declared.reason.Reason.{Reason}
 use Rattle.ldp_check.specs.declared.reason.Reason.TheVariants.{TreeOutOfPlace, BadSplit, NoSuchCell, LeafOpen, ShareOpen, NotUnusable, FamilyMissing}
 
 -- the next tree is not that of the family with its number, or there is no such family
-abbrev pub tree_fault : Problem → ℕ → ℕ → ℕ → Option Reason
-tree_fault p line number trees =
-    then_some (not (number == suc trees && nat_le number (length p.families)))
-    (TreeOutOfPlace line)
+abbrev pub tree_fault : List Family → ℕ → ℕ → ℕ → Option Reason
+tree_fault families line number trees =
+    then_some (not (number == suc trees && nat_le number (length families))) (TreeOutOfPlace line)
 
 -- the cut is below the first index of the span, or not below the last
 abbrev pub split_fault : ℕ → AxisName → ℕ → DesignBox → Option Reason
@@ -63,20 +62,20 @@ box_fault fault (b ∷ boxes) = fault b
 
 -- what is wrong with an entry at its place
 abbrev pub fault_at : Problem → Pair → ℕ → Node → Place → Option Reason
-fault_at p printed line (Tree number) at = tree_fault p line number at.trees
+fault_at p printed line (Tree number) at = tree_fault p.families line number at.trees
 fault_at p printed line (Split axis cut) at = box_fault (split_fault line axis cut) at.boxes
 fault_at p printed line (Leaf cell) at = box_fault (leaf_fault p printed line cell) at.boxes
 fault_at p printed line (Unusable cell) at = box_fault (unusable_fault p line cell) at.boxes
 
 -- where so many trees have begun and each in its place, the next family has none
-abbrev pub missing_fault : Problem → ℕ → Option Reason
-missing_fault p trees =
-    then_some (nat_lt trees (length p.families)) (FamilyMissing (suc trees))
+abbrev pub missing_fault : List Family → ℕ → Option Reason
+missing_fault families trees =
+    then_some (nat_lt trees (length families)) (FamilyMissing (suc trees))
 
 -- the first fault of the entries from the one in this line on, in their order, and after the last
 -- one the first family without a tree
 abbrev pub first_fault : Problem → Pair → ℕ → List Node → Place → Option Reason
-first_fault p printed line [] at = missing_fault p at.trees
+first_fault p printed line [] at = missing_fault p.families at.trees
 first_fault p printed line (entry ∷ entries) at =
     option_or (fault_at p printed line entry at)
     (first_fault p printed (line + 1) entries (after p.families entry at))

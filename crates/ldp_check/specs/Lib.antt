@@ -2,4 +2,5 @@ pub mod Reports
 pub mod Inputs
 pub mod Printed
 pub mod Entries
+pub mod Stacks
 pub mod Verdicts

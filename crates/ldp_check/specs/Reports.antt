@@ -1,6 +1,6 @@
 -- The report of a design, and where a printed one differs. (Own choice of this project.)
 use Rattle.std.specs.Prelude.{ℕ, ◌==◌, ◌&&◌, ℤ, Bool, true, false, not, List, length}
-use Rattle.std.specs.Prelude.{Option, None, Some, option_map, slice_get, if◌then◌else◌}
+use Rattle.std.specs.Prelude.{[], ◌∷◌, position, Option, option_map, slice_get}
 use Rattle.std.specs.Option.{option_zip}
 use Rattle.std.specs.Ordering.{int_eq}
 use Rattle.ldp_design.specs.declared.family.Kind.{Kind}
@@ -42,17 +42,20 @@ is_kind Hotine Hotine = true
 is_kind Lambert2 Lambert2 = true
 is_kind _ _ = false
 
--- the first of the nine lines of a report that is not that of another one, from 0: the kind, the
--- four values, the worst distortion, its place, the cells, and the nodes
+abbrev pub same_place : Report → Report → Bool
+same_place a b = a.row == b.row && a.col == b.col
+
+abbrev pub same_cells : Report → Report → Bool
+same_cells a b = a.cells == b.cells && a.missing == b.missing
+
+-- which of the nine lines of two reports are the same: the kind, the four values, the worst
+-- distortion, its place, the numbers of cells, and the number of nodes
+abbrev pub same_lines : Report → Report → List Bool
+same_lines a b =
+    is_kind a.kind b.kind ∷ int_eq a.lat b.lat ∷ int_eq a.lon b.lon
+    ∷ int_eq a.azimuth b.azimuth ∷ int_eq a.scale b.scale ∷ int_eq a.ppm b.ppm
+    ∷ same_place a b ∷ same_cells a b ∷ (a.nodes == b.nodes) ∷ []
+
+-- the first line, from 0, of a report that is not that of another one
 abbrev pub differing_line : Report → Report → Option ℕ
-differing_line printed actual =
-    if not (is_kind printed.kind actual.kind) then Some 0
-    else if not (int_eq printed.lat actual.lat) then Some 1
-    else if not (int_eq printed.lon actual.lon) then Some 2
-    else if not (int_eq printed.azimuth actual.azimuth) then Some 3
-    else if not (int_eq printed.scale actual.scale) then Some 4
-    else if not (int_eq printed.ppm actual.ppm) then Some 5
-    else if not (printed.row == actual.row && printed.col == actual.col) then Some 6
-    else if not (printed.cells == actual.cells && printed.missing == actual.missing) then Some 7
-    else if not (printed.nodes == actual.nodes) then Some 8
-    else None
+differing_line printed actual = position not (same_lines printed actual)

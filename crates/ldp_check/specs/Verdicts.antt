@@ -1,6 +1,6 @@
 -- The verdict on a certificate: the first of the reasons against it, in this order. (Own choice of
 -- this project.)
-use Rattle.std.specs.Prelude.{◌≡◌, ℕ, pos, ◌+◌, ℤ, ◌==◌, ◌&&◌, not, Bool, true, false, nat_lt}
+use Rattle.std.specs.Prelude.{◌≡◌, ℕ, pos, ◌+◌, ℤ, ◌==◌, ◌&&◌, not, Bool, false, nat_lt}
 use Rattle.std.specs.Prelude.{List, [], ◌∷◌, Option, None, Some, option_map, option_and_then, IfSome}
 use Rattle.std.specs.Bool.{then_some}
 use Rattle.std.specs.Ordering.{int_eq}
@@ -68,10 +68,13 @@ actual_report p list job =
     report_of p.families list job.design (pos (cost p job.design).value) (worst_cell p job.design)
     (node_count job.forest)
 
+abbrev pub other_report : Option Names → Report → Option Report → Option Reason
+other_report names report actual =
+    option_map (λ line. ReportDiffers (report_line names + line))
+    (option_and_then (differing_line report) actual)
+
 abbrev pub report_differs : Problem → CellList → Job → Option Reason
-report_differs p list job =
-    option_map (λ line. ReportDiffers (report_line job.names + line))
-    (option_and_then (differing_line job.report) (actual_report p list job))
+report_differs p list job = other_report job.names job.report (actual_report p list job)
 
 abbrev pub forest_fault : Problem → Job → Option Reason
 forest_fault p job =
