@@ -5,3 +5,4 @@ pub mod EvalText
 pub mod Eval
 pub mod Rejection
 pub mod Check
+pub mod Laws

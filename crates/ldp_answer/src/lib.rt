@@ -10,6 +10,7 @@ mod check;
 mod eval;
 mod eval_text;
 mod fault;
+pub mod laws;
 mod rejection;
 mod upgrade;
 
