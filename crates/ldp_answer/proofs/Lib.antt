@@ -1,0 +1,3 @@
+mod Lines
+mod Lengths
+pub mod Upgrades

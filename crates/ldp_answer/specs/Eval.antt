@@ -1,31 +1,20 @@
 -- What `eval` answers over a grid that was read. Own choice of this project.
-use Rattle.std.specs.Prelude.{◌==◌, ℤ, length, false, slice_get, if◌then◌else◌}
-use Rattle.std.specs.Prelude.{Option, Some, None, Result, Ok, Err}
+use Rattle.std.specs.Prelude.{ℤ, length, false, slice_get, Option, Some, None, Result, Ok, Err}
 use Rattle.ldp_tm.specs.TransverseMercator.{transverse_mercator}
 use Rattle.ldp_heights.specs.Grid.{HeightGrid}
-use Rattle.ldp_cells.specs.Cells.{CellList, area_cells}
+use Rattle.ldp_cells.specs.Cells.{CellList}
 use Rattle.ldp_cells.specs.declared.cell.Cell.{Cell}
 use Rattle.ldp_distortion.specs.Distortion.{distortions}
 use Rattle.ldp_distortion.specs.Worst.{worst_of}
 use Rattle.ldp_distortion.specs.declared.worst.Worst.{Worst}
 use Rattle.ldp_distortion.specs.declared.worst.Worst.TheVariants.{Is, Unusable}
 use Rattle.ldp_quantity.specs.Results.{◌>>=◌}
-use Rattle.ldp_message.specs.Refusal.{or_refused}
+use Rattle.ldp_answer.specs.Cells.{area_read}
 use Rattle.ldp_answer.specs.Central.{CentralDesign, central_inputs}
 use Rattle.ldp_answer.specs.EvalText.{eval_text}
 use Rattle.ldp_answer.specs.declared.answer.Answer.{Answer}
 use Rattle.ldp_message.specs.declared.refusal.Refusal.{Refusal}
 use Rattle.ldp_message.specs.declared.refusal.Refusal.TheVariants as refusals
-
--- there is a cell
-abbrev pub some_cells : CellList → Result CellList Refusal
-some_cells list = if length list.cells == 0 then Err refusals.NoCell else Ok list
-
--- the cells of the area
-abbrev pub area_read : HeightGrid → Result CellList Refusal
-area_read grid = do
-  list ← or_refused refusals.RefusedCells (area_cells grid)
-  some_cells list
 
 -- the worst of a transverse Mercator design over the cells
 unfoldable pub central_worst : CellList → CentralDesign → Worst

@@ -1,6 +1,9 @@
 -- What work over values that were read gives. Own choice of this project.
 use Rattle.std.specs.Prelude.{◌≡◌, Result, Ok, Err}
+use Rattle.ldp_cells.specs.declared.fault.CellsFault.{CellsFault}
+use Rattle.ldp_cells.specs.declared.fault.CellsFault.TheVariants as cells
 use Rattle.ldp_message.specs.declared.refusal.Refusal.{Refusal}
+use Rattle.ldp_message.specs.declared.refusal.Refusal.TheVariants.{RefusedCells}
 use Rattle.ldp_answer.specs.declared.fault.WorkFault.{WorkFault}
 use Rattle.ldp_answer.specs.declared.fault.WorkFault.TheVariants as faults
 
@@ -9,3 +12,8 @@ abbrev pub Works : {A : Type 0} → Result A WorkFault → Result A Refusal → 
 Works (Ok a) told = told ≡ Ok a
 Works (Err (faults.Refused refusal)) told = told ≡ Err refusal
 Works (Err faults.Memory) told = Unit {0}
+
+-- work stops where the cells cannot be had
+abbrev pub cells_work : CellsFault → WorkFault
+cells_work (cells.TooManyCells count) = faults.Refused (RefusedCells (cells.TooManyCells count))
+cells_work cells.Memory = faults.Memory

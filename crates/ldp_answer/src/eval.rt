@@ -1,13 +1,14 @@
 ghost use Rattle.std.specs.Prelude.{◌≡◌, ◌<◌, length, IfOk};
 ghost use Rattle.ldp_distortion.specs.Worst.{HasNumber, IsWithin};
 ghost use Rattle.ldp_answer.specs.Works.{Works};
-ghost use Rattle.ldp_answer.specs.Eval.{area_read, central_worst, worst_answer, eval_over};
+ghost use Rattle.ldp_answer.specs.Eval.{central_worst, worst_answer, eval_over};
 
 use crate::answer::Answer;
+use crate::cells::area_over;
 use crate::central::Central;
 use crate::eval_text::eval_text;
 use crate::fault::WorkFault;
-use ldp_cells::{Cells, CellsFault, area_cells};
+use ldp_cells::Cells;
 use ldp_distortion::{Prepared, Worst};
 use ldp_heights::Heights;
 use ldp_message::Refusal;
@@ -22,25 +23,9 @@ const MOST_STEPS: usize = 4096;
 pub fn eval_over(alloc: Global, grid: &Heights, design: &Central) -> Result<Answer, WorkFault>
     ensures { Works result (eval_over grid.now design.now) }
 {
-    let cells = area(alloc, grid)?;
+    let cells = area_over(alloc, grid)?;
     let worst = central_worst(alloc, &cells, design)?;
     tell(alloc, &cells, worst)
-}
-
-/// The cells of a grid, of which there is at least one.
-fn area(alloc: Global, grid: &Heights) -> Result<Cells, WorkFault>
-    ensures cells { Works result (area_read grid.now) }
-    ensures some { IfOk result (λ list. 0 < length list.cells) }
-{
-    let cells = match area_cells(alloc, grid) {
-        Ok(cells) => cells,
-        Err(CellsFault::Memory) => return Err(WorkFault::Memory),
-        Err(fault) => return Err(WorkFault::Refused(Refusal::RefusedCells(fault))),
-    };
-    if cells.len() == 0 {
-        return Err(WorkFault::Refused(Refusal::NoCell));
-    }
-    Ok(cells)
 }
 
 /// The worst of one transverse Mercator design over the cells.

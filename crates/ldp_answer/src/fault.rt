@@ -1,3 +1,4 @@
+use ldp_cells::CellsFault;
 use ldp_message::Refusal;
 use std::alloc::AllocError;
 
@@ -16,5 +17,19 @@ impl From<AllocError> for WorkFault {
 
     fn from(_: AllocError) -> WorkFault {
         WorkFault::Memory
+    }
+}
+
+impl From<CellsFault> for WorkFault {
+    ghost use Rattle.std.specs.Prelude.{◌≡◌};
+    ghost use Rattle.ldp_answer.specs.Works.{cells_work};
+
+    ghost from_gives = { λ cells fault. fault ≡ cells_work cells };
+
+    fn from(fault: CellsFault) -> WorkFault {
+        match fault {
+            CellsFault::Memory => WorkFault::Memory,
+            _ => WorkFault::Refused(Refusal::RefusedCells(fault)),
+        }
     }
 }

@@ -5,6 +5,8 @@ pub mod Readings
 pub mod Files
 pub mod ProblemFiles
 pub mod Eval
+pub mod Certificate
+pub mod Check
 pub mod Commands
 pub mod Ending
 pub mod Limits

@@ -1,7 +1,9 @@
-ghost use Rattle.std.specs.Prelude.{◌≡◌, IfErr, IfSome, map, string_bytes};
+ghost use Rattle.std.specs.Prelude.{◌≡◌, false, Some, IfOk, IfErr, IfSome, map, string_bytes};
 ghost use Rattle.ldp_cli.specs.Files.{ServesFrom, Gives, StopsIn};
-ghost use Rattle.ldp_cli.specs.Commands.{request, request_named, files_of, answer_to};
+ghost use Rattle.ldp_cli.specs.Commands.{request, request_named, files_of, answer_to, Shows};
 
+use crate::certificate::{JobWords, job_words};
+use crate::check::{check, upgrade};
 use crate::eval::{EvalWords, eval, eval_words};
 use crate::stop::Stop;
 use ldp_answer::Answer;
@@ -12,6 +14,8 @@ use std::alloc::Global;
 #[derive(Drop)]
 pub enum Request<'a> {
     Eval(EvalWords<'a>),
+    Check(JobWords<'a>),
+    Upgrade(JobWords<'a>),
 }
 
 /// The request of the words, if they are in a form and each number is in its range.
@@ -31,6 +35,12 @@ fn request_named<'a>(name: &str, words: &'a [String]) -> Option<Request<'a>>
     if name == "eval" {
         return Some(Request::Eval(eval_words(words)?));
     }
+    if name == "check" {
+        return Some(Request::Check(job_words(words)?));
+    }
+    if name == "upgrade" {
+        return Some(Request::Upgrade(job_words(words)?));
+    }
     None
 }
 
@@ -41,8 +51,12 @@ pub fn answer<H: Shelf>(alloc: Global, shelf: &mut H, request: &Request<'_>) -> 
         Gives result (answer_to request.now files)) }
     ensures stops { IfErr result (λ stop. StopsIn (files_of request.now) stop
         (H.faults shelf.old) (H.faults shelf.new) (H.files shelf.old)) }
+    ensures shows { IfOk result (λ answer. answer.rejected ≡ false
+        → IfSome (H.files shelf.old) (λ files. Shows (Some request.now) files)) }
 {
     match request {
         Request::Eval(words) => eval(alloc, shelf, words),
+        Request::Check(words) => check(alloc, shelf, words),
+        Request::Upgrade(words) => upgrade(alloc, shelf, words),
     }
 }

@@ -1,5 +1,6 @@
-ghost use Rattle.std.specs.Prelude.{◌≡◌, ◌<◌, IsTrue, OnOk, IfErr, IfSome};
+ghost use Rattle.std.specs.Prelude.{◌≡◌, ◌<◌, IsTrue, OnOk, IfOk, IfErr, IfSome};
 ghost use Rattle.ldp_io.specs.Count.{Later};
+ghost use Rattle.ldp_job.specs.Values.{IsJob};
 ghost use Rattle.ldp_cli.specs.Readings.{zone_read, heights_read, height_file_read, grids_read};
 ghost use Rattle.ldp_cli.specs.Readings.{job_read, is_accepted};
 ghost use Rattle.ldp_cli.specs.Files.{Gives, StopsAt};
@@ -158,6 +159,7 @@ pub fn take_job<H: Shelf>(
     requires served { IsTrue (H.serves shelf.old place name.now) }
     ensures told { IfSome (H.files shelf.old) (λ files.
         Gives result (job_read (files name.now))) }
+    ensures valid { IfOk result IsJob }
     ensures stops { IfErr result (λ stop.
         StopsAt place Role.Job stop (H.faults shelf.old) (H.faults shelf.new)) }
     ensures files { H.files shelf.new ≡ H.files shelf.old }

@@ -1,6 +1,8 @@
 //! `ldp`: reads the words and files of a command, and writes what it answers.
 #![tactic(auto)]
 
+mod certificate;
+mod check;
 mod commands;
 mod ending;
 mod eval;

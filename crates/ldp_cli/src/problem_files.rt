@@ -1,5 +1,6 @@
-ghost use Rattle.std.specs.Prelude.{◌≡◌, List, [], OnOk, IfErr, IfSome};
+ghost use Rattle.std.specs.Prelude.{◌≡◌, List, [], OnOk, IfOk, IfErr, IfSome};
 ghost use Rattle.ldp_io.specs.Count.{Later};
+ghost use Rattle.ldp_job.specs.Values.{AreNames};
 ghost use Rattle.ldp_cli.specs.Files.{Asked, ServesFrom, AreAccepted, Gives, StopsIn};
 ghost use Rattle.ldp_cli.specs.ProblemFiles.{ProblemRequest, problem_files, problem_read};
 
@@ -48,6 +49,7 @@ pub fn take_problem<H: Shelf>(
         Gives result (problem_read words.now files)) }
     ensures accepted { OnOk result (IfSome (H.files shelf.old) (λ files.
         AreAccepted files (problem_files words.now []))) }
+    ensures names { IfOk result (λ read. AreNames read.names) }
     ensures stops { IfErr result (λ stop. (more : List Asked) →
         StopsIn (problem_files words.now more) stop
         (H.faults shelf.old) (H.faults shelf.new) (H.files shelf.old)) }
@@ -67,15 +69,23 @@ pub fn take_problem<H: Shelf>(
         grids,
         hash: grid_hash,
     } = take_grids(alloc, shelf, 2, words.grids)?;
-    let names = Names {
-        zone: zone_hash,
-        heights: height_hash,
-        grids: grid_hash,
-    };
+    let names = names_of(zone_hash, height_hash, grid_hash);
     Ok(ProblemFiles {
         zone,
         heights,
         grids,
         names,
     })
+}
+
+/// The names of the files with these hashes.
+fn names_of(zone: [u8; 32], heights: [u8; 32], grids: [u8; 32]) -> Names
+    ensures value { result ≡ record { zone = zone; heights = heights; grids = grids } }
+    ensures names { AreNames result }
+{
+    Names {
+        zone,
+        heights,
+        grids,
+    }
 }

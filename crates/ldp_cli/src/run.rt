@@ -1,8 +1,8 @@
 ghost use Rattle.std.specs.Prelude.{◌≡◌, ◌↔◌, ◌⊎◌, ℕ, ◌≤◌, [], ◌∷◌, map, string_bytes};
-ghost use Rattle.std.specs.Prelude.{None, Ok, Some, IfSome};
+ghost use Rattle.std.specs.Prelude.{false, None, Ok, Some, IfSome};
 ghost use Rattle.ldp_io.specs.Count.{Rose};
 ghost use Rattle.ldp_cli.specs.Files.{HasFailed};
-ghost use Rattle.ldp_cli.specs.Commands.{request, asked_in, outcome, Serves};
+ghost use Rattle.ldp_cli.specs.Commands.{request, asked_in, outcome, Serves, Shows};
 ghost use Rattle.ldp_cli.specs.Ending.{IsOneOf, ending_status, Answers, Tells};
 ghost use Rattle.ldp_cli.specs.Ending.{EndsAs, EndsIn, IsOfWriting, KeepsOutput};
 
@@ -36,6 +36,9 @@ pub fn run_words<H: Shelf, O: Sink, E: Sink>(
     // Where the shelf tells its files: the status and the output.
     ensures answers { IfSome (H.files shelf.old) (λ files. Answers result
         (outcome (map string_bytes words.now) files) (O.written out.old) (O.written out.new)) }
+    // What an accepted job shows.
+    ensures shows { result ≡ 0 → IfSome (H.files shelf.old) (λ files.
+        Shows (request (map string_bytes words.now)) files) }
     // The error output.
     ensures line { IsOneOf result (0 ∷ 1 ∷ []) ⊎ Tells result
         (asked_in (request (map string_bytes words.now))) (outcome (map string_bytes words.now))
@@ -70,6 +73,8 @@ fn carry_out<H: Shelf, O: Sink>(
         EndsAs result (outcome (map string_bytes words.now) files)) }
     ensures answers { IfSome (H.files shelf.old) (λ files. Answers (ending_status result)
         (outcome (map string_bytes words.now) files) (O.written out.old) (O.written out.new)) }
+    ensures shows { ending_status result ≡ 0 → IfSome (H.files shelf.old) (λ files.
+        Shows (request (map string_bytes words.now)) files) }
     ensures unchanged { KeepsOutput result (O.written out.old) (O.written out.new) }
 {
     let Some(request) = request_of(words) else {
@@ -89,6 +94,7 @@ fn put<O: Sink>(out: &mut O, answer: &Answer) -> Ending
         (O.written out.old) (O.written out.new) }
     ensures ends { EndsAs result (Some (Ok answer.now)) }
     ensures unwritten { result ≡ Ending.Unwritten → Rose (O.faults out.old) (O.faults out.new) }
+    ensures done { ending_status result ≡ 0 → answer.now.rejected ≡ false }
     ensures cause { IsOfWriting result }
 {
     match write_all(out, answer.text.bytes()).end {

@@ -1,0 +1,64 @@
+ghost use Rattle.std.specs.Prelude.{◌≡◌, ◌<◌, false, length, IfOk, Ok};
+ghost use Rattle.ldp_job.specs.Values.{IsJob};
+ghost use Rattle.ldp_check.specs.Verdicts.{IsProved};
+ghost use Rattle.ldp_answer.specs.Check.{job_problem, verdict_over, check_text, check_over};
+
+use crate::answer::Answer;
+use crate::rejection::rejection;
+use ldp_cells::Cells;
+use ldp_check::Verdict;
+use ldp_decimal::{Memory, Text};
+use ldp_design::Grids;
+use ldp_job::{Job, Names};
+use std::alloc::{AllocError, Global};
+
+/// What `check` prints: whether a job is accepted over the cells of a zone, and if not, why.
+pub fn check_over(
+    alloc: Global,
+    cells: &Cells,
+    grids: &Grids,
+    names: &Names,
+    job: &Job,
+) -> Result<Answer, Memory>
+    requires some { 0 < length cells.now.cells }
+    requires job { IsJob job.now }
+    ensures answer { IfOk result (λ answer.
+        answer ≡ check_over cells.now grids.now names.now job.now) }
+    ensures proved { IfOk result (λ answer. answer.rejected ≡ false
+        → IsProved (job_problem cells.now grids.now job.now) job.now) }
+{
+    match verdict_over(alloc, cells, grids, names, job)? {
+        Verdict::Accepted => accepted(alloc),
+        Verdict::Rejected(reason) => rejection(alloc, &reason),
+    }
+}
+
+/// The answer for a job that is accepted.
+fn accepted(alloc: Global) -> Result<Answer, Memory>
+    ensures { IfOk result (λ answer. answer ≡ check_text Verdict.Accepted) }
+{
+    let mut text = Text::new(alloc);
+    text.push(b"accepted\n")?;
+    Ok(Answer {
+        rejected: false,
+        text,
+    })
+}
+
+/// The verdict on a job, over the ranges of the projections.
+pub fn verdict_over(
+    alloc: Global,
+    cells: &Cells,
+    grids: &Grids,
+    names: &Names,
+    job: &Job,
+) -> Result<Verdict, Memory>
+    requires some { 0 < length cells.now.cells }
+    requires job { IsJob job.now }
+    ensures verdict { IfOk result (λ verdict.
+        verdict ≡ verdict_over cells.now grids.now names.now job.now) }
+    ensures proved { result ≡ Ok Verdict.Accepted
+        → IsProved (job_problem cells.now grids.now job.now) job.now }
+{
+    Err(AllocError)
+}

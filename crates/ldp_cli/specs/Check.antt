@@ -1,0 +1,21 @@
+-- `check ZONE HEIGHTS GRIDS JOB` and `upgrade ZONE HEIGHTS GRIDS JOB`: their answers. Own choice of
+-- this project.
+use Rattle.std.specs.Prelude.{Result, Ok}
+use Rattle.ldp_quantity.specs.Results.{◌>>=◌}
+use Rattle.ldp_io.specs.Shelf.{Files}
+use Rattle.ldp_message.specs.declared.refusal.Refusal.{Refusal}
+use Rattle.ldp_answer.specs.Check.{check_over, upgrade_over}
+use Rattle.ldp_answer.specs.declared.answer.Answer.{Answer}
+use Rattle.ldp_cli.specs.Certificate.{JobRequest, certificate_read}
+
+-- whether the job is accepted, and if not, the first reason
+abbrev pub check_answer : JobRequest → Files → Result Answer Refusal
+check_answer asked files = do
+  read ← certificate_read asked files
+  Ok (check_over read.cells read.grids read.names read.job)
+
+-- the text of a job that is accepted, with the hashes of the three files
+abbrev pub upgrade_answer : JobRequest → Files → Result Answer Refusal
+upgrade_answer asked files = do
+  read ← certificate_read asked files
+  Ok (upgrade_over read.cells read.grids read.names read.job)
