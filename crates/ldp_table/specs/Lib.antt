@@ -1,0 +1,4 @@
+pub mod Rows
+pub mod Bands
+pub mod Texts
+pub mod Objects
