@@ -1,0 +1,4 @@
+mod Tallies
+mod Families
+mod Runs
+mod Carriers
