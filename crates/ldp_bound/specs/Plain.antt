@@ -1,0 +1,76 @@
+-- The problem of families of designs over cells, where the distortion of a box is bounded by its
+-- range alone.
+use Rattle.std.specs.Prelude.{ℕ, ℤ, pos, ◌≤ℤ◌, List, [], ◌∷◌, length, slice_get, Option, None, Some, option_map, option_and_then, unsigned_abs}
+use Rattle.ldp_num.specs.Written.{Ops, number_ops, range_ops}
+use Rattle.ldp_range.specs.Range.{pair_low_abs}
+use Rattle.ldp_cells.specs.declared.cell.Cell.{Cell}
+use Rattle.ldp_distortion.specs.Distortion.{distortion_in, cell_results}
+use Rattle.ldp_design.specs.declared.family.Family.{Family}
+use Rattle.ldp_design.specs.declared.design.Design.{Design}
+use Rattle.ldp_design.specs.declared.design_box.DesignBox.{DesignBox}
+use Rattle.ldp_design.specs.declared.inputs.Inputs4.{Inputs4}
+use Rattle.ldp_design.specs.Families.{family_of}
+use Rattle.ldp_design.specs.Boxes.{first_of, last_of}
+use Rattle.ldp_design.specs.Inputs.{inputs_at}
+use Rattle.ldp_problem.specs.Problem.{Problem}
+use Rattle.ldp_bound.specs.Kinds.{family_lists}
+
+-- the inputs of the design list for a design, as numbers, and for a box, as pairs of those at its
+-- low and at its high indices
+abbrev pub number_inputs : Inputs4 → List ℤ
+number_inputs at = at.lat ∷ at.lon ∷ at.azimuth ∷ at.scale ∷ []
+
+abbrev pub pair_inputs : Inputs4 → Inputs4 → List (ℤ × ℤ)
+pair_inputs low high =
+    (low.lat, high.lat) ∷ (low.lon, high.lon) ∷ (low.azimuth, high.azimuth)
+    ∷ (low.scale, high.scale) ∷ []
+
+abbrev pub design_numbers : Design → Family → List ℤ
+design_numbers d f = number_inputs (inputs_at f d)
+
+abbrev pub box_pairs : DesignBox → Family → List (ℤ × ℤ)
+box_pairs b f = pair_inputs (inputs_at f (first_of b)) (inputs_at f (last_of b))
+
+-- in any carrier: the distortion at a cell, by the lists of the family with this number, from the
+-- inputs that the family gives; undefined where there is no such family or cell
+unfoldable pub distortion_at : {A : Type 0} → Ops A → List Family → List Cell → ℕ
+    → (Family → List A) → ℕ → Option A
+distortion_at ops families cells number inputs i =
+    option_and_then
+    (λ f. option_and_then
+    (λ cell. distortion_in ops (family_lists f) (inputs f) (cell_results (family_lists f).cell cell))
+    (slice_get cells i))
+    (family_of families number)
+
+-- the absolute value of the distortion of a design at a cell
+abbrev pub delta_at : List Family → List Cell → Design → ℕ → Option ℕ
+delta_at families cells d i =
+    option_map unsigned_abs
+    (distortion_at number_ops families cells d.family (design_numbers d) i)
+
+-- the range of the distortion of a box at a cell, and the least absolute value in it: 0 where it is
+-- undefined
+abbrev pub range_at : List Family → List Cell → DesignBox → ℕ → Option (ℤ × ℤ)
+range_at families cells b i = distortion_at range_ops families cells b.family (box_pairs b) i
+
+abbrev pub least_size : Option (ℤ × ℤ) → ℕ
+least_size None = 0
+least_size (Some range) = unsigned_abs (pair_low_abs range)
+
+abbrev pub lower_at : List Family → List Cell → DesignBox → ℕ → ℕ
+lower_at families cells b i = least_size (range_at families cells b i)
+
+-- from 0 to 10^15
+pub record IsTolerance (tolerance : ℤ) : Type 0 where
+  pub low : pos 0 ≤ℤ tolerance
+  pub high : tolerance ≤ℤ pos 1_000_000_000_000_000
+
+-- the problem over these families and cells
+abbrev pub plain_problem : List Family → List Cell → Option ℕ → Problem
+plain_problem families cells tolerance = record {
+  families = families;
+  cells = length cells;
+  tolerance = tolerance;
+  lower = lower_at families cells;
+  delta = delta_at families cells;
+}

@@ -1,0 +1,19 @@
+//! The plain bounder: the distortion of designs at the cells of a zone, and what the ranges of the
+//! projections' lists bound of it over boxes of designs.
+#![tactic(auto)]
+
+mod inputs;
+mod kept;
+mod kinds;
+mod lists;
+mod lows;
+mod plain;
+mod sets;
+mod single;
+mod sizes;
+mod tally;
+mod tolerance;
+
+pub use ldp_problem::{Bound, Bounds, Cost, Pair};
+pub use plain::Plain;
+pub use std::alloc::AllocError as Memory;
