@@ -49,10 +49,7 @@ fn split(stack: &mut Stack, line: u32, axis: AxisName, at: u32) -> Option<Reason
         return None;
     };
     let span = b.span(axis);
-    if at < span.lo {
-        return Some(Reason::BadSplit { line });
-    }
-    if at >= span.hi {
+    if at < span.lo || at >= span.hi {
         return Some(Reason::BadSplit { line });
     }
     let (low, high) = cut(&b, axis, at);
