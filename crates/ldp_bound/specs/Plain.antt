@@ -1,6 +1,7 @@
 -- The problem of families of designs over cells, where the distortion of a box is bounded by its
 -- range alone.
 use Rattle.std.specs.Prelude.{ℕ, ℤ, pos, ◌≤ℤ◌, List, [], ◌∷◌, length, slice_get, Option, None, Some, option_map, option_and_then, unsigned_abs}
+use Rattle.ldp_num.specs.Number.{limit}
 use Rattle.ldp_num.specs.Written.{Ops, number_ops, range_ops}
 use Rattle.ldp_range.specs.Range.{pair_low_abs}
 use Rattle.ldp_cells.specs.declared.cell.Cell.{Cell}
@@ -12,6 +13,8 @@ use Rattle.ldp_design.specs.declared.inputs.Inputs4.{Inputs4}
 use Rattle.ldp_design.specs.Families.{family_of}
 use Rattle.ldp_design.specs.Boxes.{first_of, last_of}
 use Rattle.ldp_design.specs.Inputs.{inputs_at}
+use Rattle.ldp_problem.specs.declared.cost.Cost.{Cost}
+use Rattle.ldp_problem.specs.declared.cost.Cost.TheVariants as costs
 use Rattle.ldp_problem.specs.Problem.{Problem}
 use Rattle.ldp_bound.specs.Kinds.{family_lists}
 
@@ -74,3 +77,8 @@ plain_problem families cells tolerance = record {
   lower = lower_at families cells;
   delta = delta_at families cells;
 }
+
+-- the value of a cost is a number
+abbrev pub HasNumber : Cost → Type 0
+HasNumber (costs.Is over value cell) = (pos 0 ≤ℤ value) × (value ≤ℤ pos limit)
+HasNumber (costs.Unusable cell) = Unit {0}

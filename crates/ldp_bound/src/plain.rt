@@ -57,6 +57,9 @@ impl Plain {
 }
 
 impl Bounds for Plain {
+    ghost use Rattle.ldp_design.specs.Designs.{IsAdmitted};
+    ghost use Rattle.ldp_problem.specs.Costs.{cost_of, count_up};
+    ghost use Rattle.ldp_bound.specs.Plain.{HasNumber};
     ghost use Rattle.ldp_bound.specs.Kept.{kept_problem};
 
     ghost problem = { λ plain. kept_problem
@@ -91,7 +94,15 @@ impl Bounds for Plain {
         size(&self.kept, &mut self.numbers, d, cell).is_some()
     }
 
-    fn cost(&mut self, d: &Design) -> Cost {
+    fn cost(&mut self, d: &Design) -> Cost
+        requires { IsAdmitted (⟦<Plain as Bounds>⟧.problem self.old).families d.now }
+        ensures value { result ≡ cost_of (⟦<Plain as Bounds>⟧.problem self.old) d.now }
+        ensures number { HasNumber result }
+        ensures same {
+            ⟦<Plain as Bounds>⟧.problem self.new ≡ ⟦<Plain as Bounds>⟧.problem self.old }
+        ensures asked {
+            ⟦<Plain as Bounds>⟧.times self.new ≡ count_up (⟦<Plain as Bounds>⟧.times self.old) }
+    {
         self.asked = self.asked.saturating_add(1);
         cost(&self.kept, &mut self.numbers, d)
     }

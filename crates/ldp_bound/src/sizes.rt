@@ -3,6 +3,7 @@ ghost use Rattle.ldp_num.specs.Steps.{most_steps};
 ghost use Rattle.ldp_num.specs.Number.{limit};
 ghost use Rattle.ldp_distortion.specs.Inputs.{numbers};
 ghost use Rattle.ldp_design.specs.Designs.{IsAdmitted};
+ghost use Rattle.ldp_bound.specs.Plain.{HasNumber};
 ghost use Rattle.ldp_bound.specs.Kept.{kept_delta, size_from, IsReady, TellsDesign};
 ghost use Rattle.ldp_bound.specs.Tally.{cost_over};
 
@@ -33,6 +34,7 @@ pub(crate) fn cost(kept: &Kept, bench: &mut Bench<Fix>, d: &Design) -> Cost
     requires room { bench.old.room ≡ most_steps }
     ensures value { result ≡ cost_over kept.now.tolerance
         (kept_delta kept.now.grids kept.now.kinds d.now) kept.now.count }
+    ensures number { HasNumber result }
     ensures room { bench.new.room ≡ bench.old.room }
 {
     let mut inputs = [Fix { n: 0 }; MOST_INPUTS];
@@ -101,6 +103,7 @@ fn told(kept: &Kept, prepared: &Prepared, bench: &mut Bench<Fix>, inputs: &mut [
     ensures value { result ≡ cost_over kept.now.tolerance
         (size_from prepared.now (numbers (take (length prepared.now.lists.design.outs) inputs.old)))
         kept.now.count }
+    ensures number { HasNumber result }
     ensures room { bench.new.room ≡ bench.old.room }
 {
     let mut tally = Tally::none();

@@ -1,5 +1,6 @@
 ghost use Rattle.std.specs.Prelude.{◌≡◌, ◌<◌, ◌≤◌, ◌+◌, ◌-◌, ◌^◌, ◌++◌, ◌∷◌, [], ℕ, List, Option, length, max, pos};
 ghost use Rattle.ldp_num.specs.Number.{limit};
+ghost use Rattle.ldp_bound.specs.Plain.{HasNumber};
 ghost use Rattle.ldp_bound.specs.Tally.{tally_of, counted};
 
 use ldp_problem::{Bound, Cost};
@@ -63,7 +64,8 @@ impl Tally {
     /// As the cost of a design.
     pub fn cost(self) -> Cost
         requires { self.value ≤ limit }
-        ensures { result ≡ Cost.Is self.over (pos self.value) self.cell }
+        ensures value { result ≡ Cost.Is self.over (pos self.value) self.cell }
+        ensures number { HasNumber result }
     {
         Cost::Is {
             over: self.over,

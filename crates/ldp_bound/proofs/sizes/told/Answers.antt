@@ -41,6 +41,6 @@ returns-clause-value c =
     let p = c.args.prepared.now in
     let end : c.loop-cell.cell ≡ c.args.kept.now.count = omega arith in
     let sizes : ℕ → Option ℕ = size_from p (numbers (take (length p.lists.design.outs) c.args.inputs.now)) in
-    c.cost.ensures
+    c.cost.ensures.value
     ∙ usable_over c.args.kept.now.tolerance sizes c.loop-cell.cell c.loop-cell.tally so_far.defined so_far.told
     ∙ ap (cost_over c.args.kept.now.tolerance sizes) end
