@@ -1,0 +1,10 @@
+//! The search: the first design of least cost, and the canonical forest that shows it.
+//!
+//! The open box of smallest bound is split next, so no box whose bound is above the least cost is
+//! split. A second pass writes the forest, and asks for each bound again in place of keeping it.
+#![tactic(auto)]
+
+mod bounded_box;
+mod frontier;
+
+pub use std::alloc::AllocError as Memory;
