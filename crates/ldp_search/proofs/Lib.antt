@@ -1,2 +1,4 @@
 mod Bounds
+mod Counts
+mod Judged
 mod Lists

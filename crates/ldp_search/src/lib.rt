@@ -5,6 +5,8 @@
 #![tactic(auto)]
 
 mod bounded_box;
+mod candidate;
 mod frontier;
+mod state;
 
 pub use std::alloc::AllocError as Memory;
