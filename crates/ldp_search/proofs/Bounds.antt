@@ -1,6 +1,6 @@
 -- Bounds and costs in order.
-use Rattle.std.proofs.Common.{◌≡◌, Bool, true, false, List, [], ◌∷◌, map, refl, sym, ap, ◌∙◌}
-use Rattle.std.proofs.lemmas.Cmp.{on_total, then_total, nat_cmp_total}
+use Rattle.std.proofs.Common.{◌≡◌, Bool, true, false, ◌||◌, List, [], ◌∷◌, map, refl, sym, ap, ◌∙◌}
+use Rattle.std.proofs.lemmas.Cmp.{on_total, then_total, nat_cmp_total, tied_itself}
 use Rattle.std.proofs.lemmas.List.Elements.{All-nil, All-cons}
 use Rattle.std.proofs.lemmas.List.Sorted.{ranks_by}
 use Rattle.std.specs.Prelude.{All}
@@ -17,6 +17,10 @@ use Rattle.ldp_optimum.specs.Best.{Ranked, is_better, ranked_cmp}
 use Rattle.ldp_optimum.proofs.Order.{ranked_total}
 use Rattle.ldp_search.specs.declared.bounded_box.BoundedBox.{BoundedBox}
 use Rattle.ldp_search.specs.Bounded.{box_cmp, bounded_cmp}
+
+pub or_true : (t : Bool) → (t || true) ≡ true
+or_true true = refl
+or_true false = refl
 
 -- what comes first decides unless it is equal
 pub first_not_lt : (o q : Ordering) → is_lt (ordering_then o q) ≡ false → is_lt o ≡ false
@@ -51,6 +55,9 @@ better_weak = ranks_by ranked_total (λ x. x)
 pub at_most_trans : (a b c : Pair) → AtMost a b → AtMost b c → AtMost a c
 at_most_trans a b c h k = smaller_weak.chain c b a k h
 
+pub at_most_itself : (a : Pair) → AtMost a a
+at_most_itself a = ap is_lt (tied_itself pair_total a)
+
 -- a pair below another one is below each that is no smaller
 pub below_at_most : (a b c : Pair) → is_smaller a b ≡ true → AtMost b c → is_smaller a c ≡ true
 below_at_most a b c h k = by_test (is_smaller a c) refl
@@ -77,8 +84,4 @@ below_better x y h =
     better_weak.one_way x y (first_lt (pair_cmp x.cost y.cost) (design_cmp x.design y.design) h)
 
 pub not_better_itself : (x : Ranked) → is_better x x ≡ false
-not_better_itself x = by_test (is_better x x) refl
-  where
-    by_test : (t : Bool) → is_better x x ≡ t → is_better x x ≡ false
-    by_test true e = better_weak.one_way x x e
-    by_test false e = e
+not_better_itself x = ap is_lt (tied_itself ranked_total x)

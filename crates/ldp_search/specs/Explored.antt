@@ -34,6 +34,10 @@ pub record IsSplittable (p : Problem) (o : BoundedBox) : Type 0 where
   pub several : ¬ IsSingle o.region
   pub low : o.low ≡ bound p o.region
 
+-- a design of such a box
+abbrev pub Holds : Design → BoundedBox → Type 0
+Holds d o = IsIn d o.region
+
 -- no better than the best so far
 abbrev pub IsBeaten : Problem → Option Candidate → Design → Type 0
 IsBeaten p None d = ⊥
@@ -44,7 +48,7 @@ IsBeaten p (Some c) d = is_better (record { design = d; cost = cost p d }) (rank
 pub data IsAccounted (p : Problem) (begun : ℕ) (pending : List DesignBox) (s : State) (d : Design) : Type 0 where
   later : begun < d.family → IsAccounted p begun pending s d
   waiting : IsInSome d pending → IsAccounted p begun pending s d
-  held : Any (λ o. IsIn d o.region) s.frontier → IsAccounted p begun pending s d
+  held : Any (Holds d) s.frontier → IsAccounted p begun pending s d
   beaten : IsBeaten p s.best d → IsAccounted p begun pending s d
 
 -- So many families are begun, and these boxes are to be evaluated next. Of the nodes of the
