@@ -30,7 +30,7 @@ use Rattle.ldp_search.specs.declared.bounded_box.BoundedBox.{BoundedBox}
 use Rattle.ldp_search.specs.declared.candidate.Candidate.{Candidate}
 use Rattle.ldp_search.specs.declared.state.State.{State}
 use Rattle.ldp_search.specs.Candidates.{cost_shown, cost_held, ranked_of, IsCandidate}
-use Rattle.ldp_search.specs.Explored.{nodes_of, nodes_on, Holds, IsSplittable, IsBeaten, IsAccounted, IsExplored, IsWaiting, IsReady, IsDone, later, waiting, held, beaten}
+use Rattle.ldp_search.specs.Explored.{nodes_of, nodes_on, Advances, Holds, IsSplittable, IsBeaten, IsAccounted, IsExplored, IsWaiting, IsReady, IsDone, later, waiting, held, beaten}
 use Rattle.ldp_search.proofs.Bounds.{or_true, at_most_itself, at_most_trans, better_at_most, below_better, below_at_most}
 use Rattle.ldp_search.proofs.Counts.{nodes_split, nodes_closed}
 use Rattle.ldp_search.proofs.Judged.{candidate_ranked, held_above}
@@ -287,3 +287,19 @@ above_chosen p o s t x moves smallest same counted above =
         → AtMost o.low other.low → is_above other.low (cost_held so_far) ≡ true
     more None other h k = absurd cc
     more (Some c) other h k = below_at_most (cost_shown c) o.low other.low h k
+
+-- the parts of a box that is ready are to be evaluated
+pub parts_waiting : (p : Problem) (families : List Family) (b : DesignBox) (s : State)
+    (split : Option (DesignBox × DesignBox)) (low high : DesignBox) → IsReady p b s → p.families ≡ families
+    → split ≡ split_of families b → split ≡ Some (low, high)
+    → IsExplored p (length p.families) (low ∷ high ∷ []) s
+parts_waiting p families b s split low high ready same value some =
+    ready.parts low high (ap (λ fs. split_of fs b) same ∙ sym value ∙ some)
+
+-- where the first of them was evaluated
+pub second_waiting : (p q : Problem) (low high : DesignBox) (s t : State) → q ≡ p
+    → Advances p low s t → IsExplored p (length p.families) (low ∷ high ∷ []) s
+    → IsExplored q (length q.families) (high ∷ []) t
+second_waiting p q low high s t same advances x =
+    subst (λ r. IsExplored r (length r.families) (high ∷ []) t) (sym same)
+    (advances (length p.families) (high ∷ []) x)

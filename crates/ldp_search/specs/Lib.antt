@@ -1,3 +1,4 @@
 pub mod Bounded
 pub mod Candidates
 pub mod Explored
+pub mod Search

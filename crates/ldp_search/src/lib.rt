@@ -6,6 +6,10 @@
 
 mod bounded_box;
 mod candidate;
+mod evaluate;
+mod explore;
+mod fault;
+mod found;
 mod frontier;
 mod state;
 
