@@ -6,3 +6,4 @@ mod Lists
 mod Moves
 mod Singles
 mod Taken
+mod Writing

@@ -8,6 +8,7 @@ use Rattle.std.specs.Prelude.{All, Any}
 use Rattle.std.specs.List.Sorted.{IsPermutation}
 use Rattle.ldp_design.specs.declared.design.Design.{Design}
 use Rattle.ldp_design.specs.declared.design_box.DesignBox.{DesignBox}
+use Rattle.ldp_design.specs.declared.family.Family.{Family}
 use Rattle.ldp_design.specs.Families.{AreGrids, family_of}
 use Rattle.ldp_design.specs.Designs.{IsAdmitted}
 use Rattle.ldp_design.specs.Boxes.{LiesIn, IsIn, IsWhole, whole_of}
@@ -125,3 +126,15 @@ explored_kept p begun o pending s t x is moves counted same = record {
     moved d (held h) =
         held (Any-permutation (Holds d) (o ∷ s.frontier) t.frontier moves (Any-tail (Holds d) o s.frontier h))
     moved d (beaten h) = beaten (subst (λ best. IsBeaten p best d) (sym same) h)
+
+-- the same, over the families that the problem has
+pub whole_waiting : (p : Problem) (families : List Family) (begun : ℕ) (whole : DesignBox) (s : State)
+    → p.families ≡ families → whole_of families (begun + 1) ≡ Some whole → IsExplored p begun [] s
+    → IsExplored p (begun + 1) (whole ∷ []) s
+whole_waiting p families begun whole s same e x =
+    subst (λ n. IsExplored p n (whole ∷ []) s) next
+    (explored_begun p begun whole s
+    (ap (λ fs. whole_of fs (suc begun)) same ∙ ap (whole_of families) next ∙ e) x)
+  where
+    next : suc begun ≡ begun + 1
+    next = omega arith

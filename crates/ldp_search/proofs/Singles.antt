@@ -1,5 +1,5 @@
 -- Boxes of one design.
-use Rattle.std.specs.Prelude.{ℤ, pos}
+use Rattle.std.specs.Prelude.{ℤ, pos, unsigned_abs}
 use Rattle.std.proofs.Common.{◌≡◌, ◌≤◌, ℕ, Bool, true, false, List, Option, None, Some, refl, sym, ap, subst, ◌∙◌, arith}
 use Rattle.ldp_design.specs.declared.axis.AxisName.{AxisName}
 use Rattle.ldp_design.specs.declared.axis.AxisName.TheVariants.{Lat, Lon, Azimuth, Scale}
@@ -24,6 +24,12 @@ pub record IsLow (p : Problem) (b : DesignBox) (m : ℕ) (v : ℤ) (k : ℕ) : T
   pub over : m ≡ (bound p b).over
   pub value : v ≡ pos (bound p b).value
   pub cell : k ≡ bound_cell p b
+
+pub low_pair : (p : Problem) (b : DesignBox) (over : ℕ) (value : ℤ) (cell : ℕ) → IsLow p b over value cell
+    → record { over = over; value = unsigned_abs value } ≡ bound p b
+low_pair p b over value cell low =
+    ap (λ x. record { over = x; value = unsigned_abs value }) low.over
+    ∙ ap (λ x. record { over = (bound p b).over; value = unsigned_abs x }) low.value
 
 pub unusable_said : (p : Problem) (b : DesignBox) (cell : ℕ) → bounds.Unusable cell ≡ bound_of p b
     → unusable_at p b ≡ Some cell

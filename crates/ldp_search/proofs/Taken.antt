@@ -24,13 +24,7 @@ use Rattle.ldp_search.proofs.Bounds.{or_true, below_at_most, below_better}
 use Rattle.ldp_search.proofs.Counts.{nodes_unusable, nodes_closed}
 use Rattle.ldp_search.proofs.Judged.{held_above, better_candidate, stays_beaten, new_beaten}
 use Rattle.ldp_search.proofs.Moves.{explored_closed, explored_kept}
-use Rattle.ldp_search.proofs.Singles.{IsLow, low_said, unusable_said, single_is, none_usable, single_candidate}
-
-low_pair : (p : Problem) (b : DesignBox) (over : ℕ) (value : ℤ) (cell : ℕ) → IsLow p b over value cell
-    → record { over = over; value = unsigned_abs value } ≡ bound p b
-low_pair p b over value cell low =
-    ap (λ x. record { over = x; value = unsigned_abs value }) low.over
-    ∙ ap (λ x. record { over = (bound p b).over; value = unsigned_abs x }) low.value
+use Rattle.ldp_search.proofs.Singles.{IsLow, low_pair, low_said, unusable_said, single_is, none_usable, single_candidate}
 
 on_ok : {T E P : Type 0} (r : Result T E) → P → OnOk r P
 on_ok (Ok x) h = h

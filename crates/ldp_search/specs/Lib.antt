@@ -2,3 +2,4 @@ pub mod Bounded
 pub mod Candidates
 pub mod Explored
 pub mod Search
+pub mod Written

@@ -11,6 +11,8 @@ mod explore;
 mod fault;
 mod found;
 mod frontier;
+mod stack;
 mod state;
+mod write;
 
 pub use std::alloc::AllocError as Memory;
