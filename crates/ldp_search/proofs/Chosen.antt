@@ -252,6 +252,7 @@ done : (p : Problem) (s t : State) → IsWaiting p s
     → All (λ o. is_above o.low (cost_held s.best) ≡ true) s.frontier
     → t.best ≡ s.best → t.evaluated ≡ s.evaluated → IsDone p t
 done p s t x above same counted = record {
+  grids = x.grids;
   best = best_done p s x above ∙ ap (option_map ranked_of) (sym same);
   candidate = λ c e. x.best c (sym same ∙ e);
   evaluated = omega (

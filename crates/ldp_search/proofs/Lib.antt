@@ -1,6 +1,8 @@
+mod Answered
 mod Bounds
 mod Chosen
 mod Counts
+mod Families
 mod Judged
 mod Lists
 mod Moves

@@ -83,6 +83,7 @@ pub record IsReady (p : Problem) (b : DesignBox) (s : State) : Type 0 where
 
 -- the best so far is the best of all, and each node of the canonical forest was evaluated
 pub record IsDone (p : Problem) (s : State) : Type 0 where
+  pub grids : AreGrids p.families
   pub best : best p ≡ option_map ranked_of s.best
   pub candidate : (c : Candidate) → s.best ≡ Some c → IsCandidate p c
   pub evaluated : s.evaluated ≡ needed p

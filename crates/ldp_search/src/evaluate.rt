@@ -2,7 +2,7 @@ ghost use Rattle.std.specs.Prelude.{◌≡◌, ◌+◌, ◌≤◌, ℕ, List, �
 ghost use Rattle.ldp_design.specs.declared.design_box.DesignBox.{DesignBox};
 ghost use Rattle.ldp_design.specs.Boxes.{LiesIn};
 ghost use Rattle.ldp_search.specs.Explored.{Advances, IsExplored};
-ghost use Rattle.ldp_search.specs.Search.{IsFault};
+ghost use Rattle.ldp_search.specs.Search.{IsStop};
 
 use crate::fault::SearchFault;
 use crate::state::State;
@@ -22,7 +22,7 @@ pub fn evaluate<B: Bounds>(
     ensures next { OnOk result (Advances (B.problem bounds.old) b.now state.old state.new) }
     ensures fault { IfErr result (λ e. (begun : ℕ) (pending : List DesignBox)
         → IsExplored (B.problem bounds.old) begun (b.now ∷ pending) state.old
-        → IsFault (B.problem bounds.old) budget e) }
+        → IsStop (B.problem bounds.old) budget e) }
     ensures counted { OnOk result (state.new.evaluated ≡ state.old.evaluated + 1) }
     ensures within { state.new.evaluated ≤ budget }
     ensures same { B.problem bounds.new ≡ B.problem bounds.old }

@@ -1,6 +1,6 @@
-ghost use Rattle.std.specs.Prelude.{◌≡◌, ◌+◌, ◌≤◌, [], OnOk, IfErr};
-ghost use Rattle.ldp_search.specs.Explored.{IsExplored, IsReady, IsWaiting, IsDone};
-ghost use Rattle.ldp_search.specs.Search.{IsFault};
+ghost use Rattle.std.specs.Prelude.{◌≡◌, ◌+◌, ◌≤◌, [], None, OnOk, IfErr};
+ghost use Rattle.ldp_search.specs.Explored.{IsReady, IsWaiting, IsDone};
+ghost use Rattle.ldp_search.specs.Search.{IsStop};
 
 use crate::evaluate::evaluate;
 use crate::fault::SearchFault;
@@ -8,23 +8,41 @@ use crate::state::State;
 use ldp_design::{DesignBox, Grids, split, whole};
 use ldp_problem::Bounds;
 
-/// Evaluates the whole of each family.
-pub fn begin_all<B: Bounds>(
+/// Evaluates boxes until the best design is known, the whole of each family first.
+pub fn explore<B: Bounds>(
     bounds: &mut B,
     grids: &Grids,
     state: &mut State,
     budget: u32,
 ) -> Result<(), SearchFault>
     requires grids { (B.problem bounds.old).families ≡ grids.now }
-    requires none { IsExplored (B.problem bounds.old) 0 [] state.old }
+    requires fresh { state.old ≡ record { frontier = []; best = None; evaluated = 0 } }
     requires few { budget ≤ 1_000_000 }
-    requires within { state.old.evaluated ≤ budget }
-    ensures next { OnOk result (IsWaiting (B.problem bounds.old) state.new) }
-    ensures fault { IfErr result (IsFault (B.problem bounds.old) budget) }
+    ensures done { OnOk result (IsDone (B.problem bounds.old) state.new) }
+    ensures fault { IfErr result (IsStop (B.problem bounds.old) budget) }
     ensures within { state.new.evaluated ≤ budget }
     ensures same { B.problem bounds.new ≡ B.problem bounds.old }
-    ensures asked { B.times bounds.new + state.old.evaluated
-        ≤ B.times bounds.old + state.new.evaluated }
+    ensures asked { B.times bounds.new ≤ B.times bounds.old + state.new.evaluated }
+{
+    begin_all(bounds, grids, state, budget)?;
+    close_all(bounds, grids, state, budget)
+}
+
+/// Evaluates the whole of each family.
+fn begin_all<B: Bounds>(
+    bounds: &mut B,
+    grids: &Grids,
+    state: &mut State,
+    budget: u32,
+) -> Result<(), SearchFault>
+    requires grids { (B.problem bounds.old).families ≡ grids.now }
+    requires fresh { state.old ≡ record { frontier = []; best = None; evaluated = 0 } }
+    requires few { budget ≤ 1_000_000 }
+    ensures next { OnOk result (IsWaiting (B.problem bounds.old) state.new) }
+    ensures fault { IfErr result (IsStop (B.problem bounds.old) budget) }
+    ensures within { state.new.evaluated ≤ budget }
+    ensures same { B.problem bounds.new ≡ B.problem bounds.old }
+    ensures asked { B.times bounds.new ≤ B.times bounds.old + state.new.evaluated }
 {
     for index in 0..grids.families() {
         evaluate(bounds, state, budget, &whole(grids, index + 1))?;
@@ -33,7 +51,7 @@ pub fn begin_all<B: Bounds>(
 }
 
 /// Splits boxes, the one of smallest bound first, until the best design is known.
-pub fn close_all<B: Bounds>(
+fn close_all<B: Bounds>(
     bounds: &mut B,
     grids: &Grids,
     state: &mut State,
@@ -44,7 +62,7 @@ pub fn close_all<B: Bounds>(
     requires few { budget ≤ 1_000_000 }
     requires within { state.old.evaluated ≤ budget }
     ensures done { OnOk result (IsDone (B.problem bounds.old) state.new) }
-    ensures fault { IfErr result (IsFault (B.problem bounds.old) budget) }
+    ensures fault { IfErr result (IsStop (B.problem bounds.old) budget) }
     ensures within { state.new.evaluated ≤ budget }
     ensures same { B.problem bounds.new ≡ B.problem bounds.old }
     ensures asked { B.times bounds.new + state.old.evaluated
@@ -69,7 +87,7 @@ fn split_box<B: Bounds>(
     requires few { budget ≤ 1_000_000 }
     requires within { state.old.evaluated ≤ budget }
     ensures next { OnOk result (IsWaiting (B.problem bounds.old) state.new) }
-    ensures fault { IfErr result (IsFault (B.problem bounds.old) budget) }
+    ensures fault { IfErr result (IsStop (B.problem bounds.old) budget) }
     ensures counted { OnOk result (state.new.evaluated ≡ state.old.evaluated + 2) }
     ensures within { state.new.evaluated ≤ budget }
     ensures same { B.problem bounds.new ≡ B.problem bounds.old }

@@ -11,8 +11,12 @@ mod explore;
 mod fault;
 mod found;
 mod frontier;
+mod best_first;
 mod stack;
 mod state;
 mod write;
 
+pub use fault::SearchFault;
+pub use found::Found;
+pub use best_first::search;
 pub use std::alloc::AllocError as Memory;

@@ -7,6 +7,5 @@ invariant-loop-index g l = record {
   explored : IsExplored (g.B.Bounds.problem l.bounds) l.index [] l.state;
   within : l.state.evaluated ≤ l.budget;
   same : g.B.Bounds.problem l.bounds ≡ g.B.Bounds.problem l.fn.bounds;
-  asked : g.B.Bounds.times l.bounds + l.fn.state.evaluated
-      ≤ g.B.Bounds.times l.fn.bounds + l.state.evaluated;
+  asked : g.B.Bounds.times l.bounds ≤ g.B.Bounds.times l.fn.bounds + l.state.evaluated;
 }

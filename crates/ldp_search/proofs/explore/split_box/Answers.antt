@@ -1,7 +1,7 @@
 use Rattle.std.proofs.Common.{[], ◌∷◌, length, subst}
 use Rattle.std.proofs.lemmas.Result.{err_from_is_err_and}
 use Rattle.ldp_search.specs.Explored.{IsWaiting}
-use Rattle.ldp_search.specs.Search.{IsFault}
+use Rattle.ldp_search.specs.Search.{IsStop}
 use Rattle.ldp_search.proofs.Chosen.{parts_waiting, second_waiting}
 use Rattle.ldp_search.proofs.explore.split_box.Goals as goal
 
@@ -15,7 +15,7 @@ returns-in_err-evaluate-clause-fault g c =
 pub returns-in_err-evaluate-2-clause-fault : goal.returns-in_err-evaluate-2-clause-fault
 returns-in_err-evaluate-2-clause-fault g c =
     let p = err_from_is_err_and c.from_residual-in_err-evaluate-2.result c.from_residual-in_err-evaluate-2.ensures.1 in
-    rw (p.1, p.2) (subst (λ q. IsFault q c.args.budget c.in_err-evaluate-2.field-0.0) c.in_ok-evaluate.ensures.same
+    rw (p.1, p.2) (subst (λ q. IsStop q c.args.budget c.in_err-evaluate-2.field-0.0) c.in_ok-evaluate.ensures.same
     (c.in_err-evaluate-2.ensures.fault _ []
     (second_waiting _ _ c.in-Some.low c.in-Some.high c.args.state.now c.evaluate.new.state c.in_ok-evaluate.ensures.same
     c.in_ok-evaluate.ensures.next
