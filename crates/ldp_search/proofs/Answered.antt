@@ -1,22 +1,20 @@
 -- What a search answers, once the best design is known.
-use Rattle.std.proofs.Common.{◌≡◌, ◌≤◌, ◌+◌, ◌*◌, ℕ, false, List, Option, None, Some, refl, sym, ap, subst, ◌∙◌, arith}
+use Rattle.std.proofs.Common.{◌≡◌, ◌≤◌, ℕ, false, List, None, Some, sym, ap, subst, ◌∙◌, arith}
 use Rattle.std.specs.Prelude.{option_map}
 use Rattle.std.specs.Ordering.{is_lt}
 use Rattle.ldp_design.specs.declared.design.Design.{Design}
 use Rattle.ldp_design.specs.declared.family.Family.{Family}
 use Rattle.ldp_design.specs.declared.node.Node.{Node}
 use Rattle.ldp_design.specs.Designs.{IsAdmitted, design_cmp}
-use Rattle.ldp_design.specs.Forests.{IsWellShaped, is_shaped, node_count}
-use Rattle.ldp_problem.specs.declared.pair.Pair.{Pair}
+use Rattle.ldp_design.specs.Forests.{IsWellShaped}
 use Rattle.ldp_problem.specs.Problem.{Problem}
 use Rattle.ldp_problem.specs.Pairs.{AtMost}
 use Rattle.ldp_problem.specs.Costs.{IsUsable, cost}
-use Rattle.ldp_optimum.specs.Best.{Ranked, best, least}
-use Rattle.ldp_optimum.specs.Forest.{forest, needed}
+use Rattle.ldp_optimum.specs.Best.{best, least}
+use Rattle.ldp_optimum.specs.Forest.{forest}
 use Rattle.ldp_optimum.proofs.Bests.{best_least, best_first, no_best_none_usable}
 use Rattle.ldp_optimum.proofs.Forests.{forest_is_shaped}
 use Rattle.ldp_search.specs.declared.candidate.Candidate.{Candidate}
-use Rattle.ldp_search.specs.declared.found.Found.{Found}
 use Rattle.ldp_search.specs.declared.state.State.{State}
 use Rattle.ldp_search.specs.Candidates.{cost_shown, ranked_of, IsCandidate}
 use Rattle.ldp_search.specs.Explored.{IsDone}
@@ -64,13 +62,13 @@ module _ (p : Problem) (t : State) (c : Candidate) (done : IsDone p t) (e : t.be
   }
 
   pub cost_found : (written : List Node) → HasCost p record {
-        design = c.design;
-        over = c.over;
-        worst = c.worst;
-        cell = c.cell;
-        forest = written;
-        nodes = t.evaluated;
-      }
+    design = c.design;
+    over = c.over;
+    worst = c.worst;
+    cell = c.cell;
+    forest = written;
+    nodes = t.evaluated;
+  }
   cost_found written =
       let candidate : IsCandidate p c = done.candidate c e in
       record { over = candidate.over; worst = candidate.worst; cell = candidate.cell }

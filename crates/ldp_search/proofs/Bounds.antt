@@ -1,5 +1,5 @@
 -- Bounds and costs in order.
-use Rattle.std.proofs.Common.{◌≡◌, Bool, true, false, ◌||◌, List, [], ◌∷◌, map, refl, sym, ap, ◌∙◌}
+use Rattle.std.proofs.Common.{◌≡◌, Bool, true, false, ◌||◌, List, [], ◌∷◌, map, refl, ap}
 use Rattle.std.proofs.lemmas.Cmp.{on_total, then_total, nat_cmp_total, tied_itself}
 use Rattle.std.proofs.lemmas.List.Elements.{All-nil, All-cons}
 use Rattle.std.proofs.lemmas.List.Sorted.{ranks_by}
@@ -13,7 +13,7 @@ use Rattle.std.specs.declared.cmp.Reverse.{Reverse}
 use Rattle.ldp_design.specs.Designs.{design_cmp}
 use Rattle.ldp_problem.specs.declared.pair.Pair.{Pair}
 use Rattle.ldp_problem.specs.Pairs.{AtMost, is_smaller, pair_cmp}
-use Rattle.ldp_optimum.specs.Best.{Ranked, is_better, ranked_cmp}
+use Rattle.ldp_optimum.specs.Best.{Ranked, is_better}
 use Rattle.ldp_optimum.proofs.Order.{ranked_total}
 use Rattle.ldp_search.specs.declared.bounded_box.BoundedBox.{BoundedBox}
 use Rattle.ldp_search.specs.Bounded.{box_cmp, bounded_cmp}

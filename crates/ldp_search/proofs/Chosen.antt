@@ -1,5 +1,5 @@
 -- The box that is split next, and the end of the search.
-use Rattle.std.proofs.Common.{◌≡◌, ◌≤◌, ◌<◌, ◌+◌, ℕ, zero, suc, Bool, true, false, ◌||◌, List, [], ◌∷◌, inl, inr, length, Option, None, Some, refl, sym, ap, subst, ◌∙◌, arith}
+use Rattle.std.proofs.Common.{◌≡◌, ◌≤◌, ◌+◌, ℕ, zero, suc, true, false, List, [], ◌∷◌, inl, inr, length, Option, None, Some, refl, sym, ap, subst, ◌∙◌, arith}
 use Rattle.std.proofs.lemmas.List.Elements.{All-nil, All-cons, All-head, All-tail, All-weaker}
 use Rattle.std.proofs.lemmas.List.Sorted.{All-permutation, IsPermutation-sym, length_permutation, sum_by_popped}
 use Rattle.std.proofs.lemmas.List.Sums.{sum_by-cons}
@@ -19,10 +19,10 @@ use Rattle.ldp_design.proofs.Splits.{splits_cut}
 use Rattle.ldp_design.specs.Forests.{node_count}
 use Rattle.ldp_problem.specs.Problem.{Problem}
 use Rattle.ldp_problem.specs.Pairs.{AtMost, is_smaller}
-use Rattle.ldp_problem.specs.Costs.{IsUsable, cost, bound, unusable_at}
+use Rattle.ldp_problem.specs.Costs.{IsUsable, cost, bound}
 use Rattle.ldp_problem.proofs.Facts.{bound_below}
 use Rattle.ldp_optimum.specs.Best.{Ranked, is_better, best, least}
-use Rattle.ldp_optimum.specs.Forest.{is_above, needed}
+use Rattle.ldp_optimum.specs.Forest.{is_above}
 use Rattle.ldp_optimum.specs.Laws.{IsRanked, IsRankOf}
 use Rattle.ldp_optimum.proofs.Bests.{best_ranked, ranked_usable, unbeaten_best, none_usable_no_best}
 use Rattle.ldp_optimum.proofs.Forests.{all_trees}
@@ -54,7 +54,7 @@ one_of : (p : Problem) (Known : BoundedBox → Type 0) (frontier : List BoundedB
 one_of p Known [] d all known some = absurd (Any-nil (Holds d) some)
 one_of p Known (o ∷ frontier) d all known some =
     elim (Any-cases (Holds d) o frontier some) [
-      inl h ↦ (o, All-head (IsSplittable p) o frontier all, All-head Known o frontier known, h)
+      | inl h ↦ (o, All-head (IsSplittable p) o frontier all, All-head Known o frontier known, h)
       | inr h ↦ one_of p Known frontier d (All-tail (IsSplittable p) o frontier all) (All-tail Known o frontier known) h
     ]
 
@@ -151,8 +151,8 @@ explored_split p o low high s t x moves same counted parts nodes = record {
     moved d (waiting h) = absurd (Any-nil (IsIn d) h)
     moved d (held h) =
         elim (Any-cases (Holds d) o t.frontier (Any-permutation (Holds d) s.frontier (o ∷ t.frontier) moves h)) [
-          inl inside ↦ elim (parts.covered d inside) [
-            inl first ↦ waiting (Any-head (IsIn d) low (high ∷ []) first)
+          | inl inside ↦ elim (parts.covered d inside) [
+            | inl first ↦ waiting (Any-head (IsIn d) low (high ∷ []) first)
             | inr second ↦ waiting (Any-tail (IsIn d) low (high ∷ []) (Any-head (IsIn d) high [] second))
           ]
           | inr other ↦ held other
@@ -204,7 +204,7 @@ nodes_above p so_far (o ∷ frontier) is all above =
       one,
       sum_by-cons (λ y. nodes_of p y.region) o frontier,
       nodes_above p so_far frontier is (All-tail (IsSplittable p) o frontier all)
-      (All-tail (λ y. is_above y.low (cost_held so_far) ≡ true) o frontier above),
+          (All-tail (λ y. is_above y.low (cost_held so_far) ≡ true) o frontier above),
     )
   where
     node_of : (y : BoundedBox) → IsSplittable p y → is_above y.low (least p) ≡ true → nodes_of p y.region ≡ 1

@@ -1,5 +1,5 @@
 -- The nodes of boxes in the canonical forest.
-use Rattle.std.proofs.Common.{◌≡◌, ◌≤◌, ◌<◌, ◌+◌, ℕ, suc, true, false, ◌||◌, List, [], ◌∷◌, length, None, Some, refl, ap, ◌∙◌, arith}
+use Rattle.std.proofs.Common.{◌≡◌, ◌≤◌, ◌<◌, ◌+◌, ℕ, true, false, ◌||◌, List, [], ◌∷◌, length, None, Some, ap, ◌∙◌, arith}
 use Rattle.std.proofs.lemmas.List.Elements.{All-head, All-tail}
 use Rattle.std.proofs.lemmas.List.Sums.{sum_by-cons}
 use Rattle.std.specs.Prelude.{All}
@@ -17,7 +17,7 @@ use Rattle.ldp_optimum.proofs.Trees.{tree_unusable, tree_closed, tree_split, spl
 use Rattle.ldp_optimum.proofs.Forests.{first_trees_count}
 use Rattle.ldp_search.specs.declared.bounded_box.BoundedBox.{BoundedBox}
 use Rattle.ldp_search.specs.declared.state.State.{State}
-use Rattle.ldp_search.specs.Explored.{nodes_of, nodes_on, nodes_of_all, IsSplittable, IsExplored}
+use Rattle.ldp_search.specs.Explored.{nodes_of, nodes_on, IsSplittable, IsExplored}
 
 pub nodes_unusable : (p : Problem) (b : DesignBox) (cell : ℕ) → unusable_at p b ≡ Some cell → nodes_of p b ≡ 1
 nodes_unusable p b cell e = ap node_count (tree_unusable p (least p) b cell e)

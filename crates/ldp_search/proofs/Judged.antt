@@ -1,12 +1,12 @@
 -- Candidates against the best of all.
-use Rattle.std.proofs.Common.{◌≡◌, ℕ, Bool, true, false, Option, None, Some, refl, sym, ap, subst, ◌∙◌}
-use Rattle.std.specs.Prelude.{option_map, unsigned_abs, pos}
+use Rattle.std.proofs.Common.{◌≡◌, Bool, true, false, Option, None, Some, refl, sym, ap, subst, ◌∙◌}
+use Rattle.std.specs.Prelude.{option_map, unsigned_abs}
 use Rattle.ldp_design.specs.declared.design.Design.{Design}
 use Rattle.ldp_problem.specs.declared.pair.Pair.{Pair}
 use Rattle.ldp_problem.specs.Problem.{Problem}
 use Rattle.ldp_problem.specs.Pairs.{AtMost, is_smaller}
 use Rattle.ldp_problem.specs.Costs.{cost}
-use Rattle.ldp_optimum.specs.Best.{Ranked, rank, is_better, best, least}
+use Rattle.ldp_optimum.specs.Best.{Ranked, is_better, best, least}
 use Rattle.ldp_optimum.specs.Forest.{is_above}
 use Rattle.ldp_optimum.specs.Laws.{IsRanked}
 use Rattle.ldp_optimum.proofs.Bests.{usable_ranked, best_least, no_best_none_usable}

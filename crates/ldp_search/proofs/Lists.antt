@@ -1,5 +1,5 @@
 -- One among some.
-use Rattle.std.proofs.Common.{◌≡◌, ◌<◌, ℕ, zero, suc, List, [], ◌∷◌, ◌⊎◌, inl, inr, length, arith, refl, sym, subst}
+use Rattle.std.proofs.Common.{zero, suc, List, [], ◌∷◌, ◌⊎◌, inl, inr, arith, refl, sym, subst}
 use Rattle.std.proofs.lemmas.List.Sorted.{Contains-permutation}
 use Rattle.std.specs.Prelude.{Any}
 use Rattle.std.specs.List.Sorted.{IsPermutation}

@@ -1,5 +1,5 @@
 -- What each step of a search keeps.
-use Rattle.std.proofs.Common.{◌≡◌, ◌≤◌, ◌<◌, ◌+◌, ℕ, zero, suc, List, [], ◌∷◌, ◌⊎◌, inl, inr, ⊎_elim, length, Option, None, Some, refl, sym, ap, subst, ◌∙◌, arith}
+use Rattle.std.proofs.Common.{◌≡◌, ◌<◌, ◌+◌, ℕ, zero, suc, List, [], ◌∷◌, inl, inr, None, Some, refl, sym, ap, subst, ◌∙◌, arith}
 use Rattle.std.proofs.lemmas.List.Elements.{All-nil, All-cons, All-tail}
 use Rattle.std.proofs.lemmas.List.Sorted.{All-permutation, length_permutation, sum_by_pushed}
 use Rattle.std.proofs.lemmas.List.Sums.{sum_by-cons}
@@ -63,7 +63,7 @@ explored_begun p begun whole s e x =
         → IsAccounted p begun [] s d → IsAccounted p (suc begun) (whole ∷ []) s d
     moved d a is (later h) =
         elim (cases_eq d.family (suc begun)) [
-          inl same ↦ waiting (Any-head (IsIn d) whole [] (is.holds d a same))
+          | inl same ↦ waiting (Any-head (IsIn d) whole [] (is.holds d a same))
           | inr other ↦ later (omega arith)
         ]
     moved d a is (waiting w) = waiting (Any-tail (IsIn d) whole [] w)
@@ -120,7 +120,7 @@ explored_kept p begun o pending s t x is moves counted same = record {
     moved d (later h) = later h
     moved d (waiting w) =
         elim (Any-cases (IsIn d) o.region pending w) [
-          inl h ↦ held (Any-permutation (Holds d) (o ∷ s.frontier) t.frontier moves (Any-head (Holds d) o s.frontier h))
+          | inl h ↦ held (Any-permutation (Holds d) (o ∷ s.frontier) t.frontier moves (Any-head (Holds d) o s.frontier h))
           | inr h ↦ waiting h
         ]
     moved d (held h) =

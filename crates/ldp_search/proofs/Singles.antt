@@ -1,7 +1,6 @@
 -- Boxes of one design.
 use Rattle.std.specs.Prelude.{ℤ, pos, unsigned_abs}
-use Rattle.std.proofs.Common.{◌≡◌, ◌≤◌, ℕ, Bool, true, false, List, Option, None, Some, refl, sym, ap, subst, ◌∙◌, arith}
-use Rattle.ldp_design.specs.declared.axis.AxisName.{AxisName}
+use Rattle.std.proofs.Common.{◌≡◌, ◌≤◌, ℕ, Bool, true, false, List, Option, None, Some, refl, sym, ap, ◌∙◌, arith}
 use Rattle.ldp_design.specs.declared.axis.AxisName.TheVariants.{Lat, Lon, Azimuth, Scale}
 use Rattle.ldp_design.specs.declared.design.Design.{Design}
 use Rattle.ldp_design.specs.declared.design_box.DesignBox.{DesignBox}
@@ -12,8 +11,7 @@ use Rattle.ldp_design.specs.Splits.{family_cut}
 use Rattle.ldp_design.proofs.Splits.{singles_end}
 use Rattle.ldp_design.proofs.Wholes.{boxes_are_admitted, singles_have_one}
 use Rattle.ldp_problem.specs.Problem.{Problem, IsSound}
-use Rattle.ldp_problem.specs.Costs.{IsUsable, cost, worst_cell, bound, bound_cell, first_undefined, unusable_at, bound_answer, bound_of}
-use Rattle.ldp_problem.specs.declared.bound.Bound.{Bound}
+use Rattle.ldp_problem.specs.Costs.{IsUsable, bound, bound_cell, first_undefined, unusable_at, bound_answer, bound_of}
 use Rattle.ldp_problem.specs.declared.bound.Bound.TheVariants as bounds
 use Rattle.ldp_problem.proofs.Facts.{none_undefined, usable_has_none, single_exact}
 use Rattle.ldp_search.specs.Candidates.{IsCandidate}
@@ -60,9 +58,12 @@ first_in b one = record {
   family = refl;
   low = λ axis. elim axis as (λ a. (span_of a b).lo ≤ index_of a (first_of b))
       [ Lat ↦ omega arith | Lon ↦ omega arith | Azimuth ↦ omega arith | Scale ↦ omega arith ];
-  high = λ axis. elim axis as (λ a. index_of a (first_of b) ≤ (span_of a b).hi)
-      [ Lat ↦ omega (arith, one.one Lat) | Lon ↦ omega (arith, one.one Lon)
-        | Azimuth ↦ omega (arith, one.one Azimuth) | Scale ↦ omega (arith, one.one Scale) ];
+  high = λ axis. elim axis as (λ a. index_of a (first_of b) ≤ (span_of a b).hi) [
+    | Lat ↦ omega (arith, one.one Lat)
+    | Lon ↦ omega (arith, one.one Lon)
+    | Azimuth ↦ omega (arith, one.one Azimuth)
+    | Scale ↦ omega (arith, one.one Scale)
+  ];
 }
 
 -- a single that has an undefined cell has no usable design

@@ -1,25 +1,23 @@
 -- What a search keeps when it takes in the bound of a box.
-use Rattle.std.proofs.Common.{◌≡◌, ◌+◌, ℕ, Bool, true, false, ◌||◌, List, ◌∷◌, Option, None, Some, Result, refl, sym, ap, subst, ◌∙◌}
+use Rattle.std.proofs.Common.{◌≡◌, ◌+◌, ℕ, Bool, true, false, ◌∷◌, Option, None, Some, Result, refl, sym, ap, subst, ◌∙◌}
 use Rattle.std.proofs.lemmas.List.Elements.{All-head}
 use Rattle.std.proofs.lemmas.Result.{on_ok_weaker}
-use Rattle.std.specs.Prelude.{ℤ, pos, unsigned_abs, OnOk, Ok, Err}
+use Rattle.std.specs.Prelude.{ℤ, unsigned_abs, OnOk, Ok, Err}
 use Rattle.std.specs.List.Sorted.{IsPermutation}
 use Rattle.ldp_design.specs.declared.design.Design.{Design}
 use Rattle.ldp_design.specs.declared.design_box.DesignBox.{DesignBox}
-use Rattle.ldp_design.specs.Boxes.{LiesIn, IsIn, IsSingle, is_single, first_of}
+use Rattle.ldp_design.specs.Boxes.{LiesIn, IsSingle, is_single, first_of}
 use Rattle.ldp_design.proofs.Wholes.{singles_have_one}
-use Rattle.ldp_problem.specs.declared.pair.Pair.{Pair}
 use Rattle.ldp_problem.specs.declared.bound.Bound.TheVariants as bounds
 use Rattle.ldp_problem.specs.Problem.{Problem}
 use Rattle.ldp_problem.specs.Pairs.{AtMost}
-use Rattle.ldp_problem.specs.Costs.{IsUsable, cost, bound, bound_of, unusable_at}
+use Rattle.ldp_problem.specs.Costs.{cost, bound, bound_of, unusable_at}
 use Rattle.ldp_problem.proofs.Facts.{bound_below}
 use Rattle.ldp_optimum.specs.Forest.{is_above}
-use Rattle.ldp_search.specs.declared.bounded_box.BoundedBox.{BoundedBox}
 use Rattle.ldp_search.specs.declared.candidate.Candidate.{Candidate}
 use Rattle.ldp_search.specs.declared.state.State.{State}
 use Rattle.ldp_search.specs.Candidates.{cost_shown, cost_held, better_of, ranked_of, IsCandidate}
-use Rattle.ldp_search.specs.Explored.{IsBeaten, IsSplittable, IsExplored, Advances}
+use Rattle.ldp_search.specs.Explored.{IsBeaten, Advances}
 use Rattle.ldp_search.proofs.Bounds.{or_true, below_at_most, below_better}
 use Rattle.ldp_search.proofs.Counts.{nodes_unusable, nodes_closed}
 use Rattle.ldp_search.proofs.Judged.{held_above, better_candidate, stays_beaten, new_beaten}

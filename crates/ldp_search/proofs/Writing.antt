@@ -1,5 +1,5 @@
 -- What is written of the canonical forest.
-use Rattle.std.proofs.Common.{◌≡◌, ◌+◌, ℕ, Bool, true, false, ◌||◌, List, [], ◌∷◌, ◌++◌, Option, None, Some, refl, sym, ap, subst, ◌∙◌, arith, append_assoc}
+use Rattle.std.proofs.Common.{◌≡◌, ◌+◌, ℕ, Bool, true, false, ◌||◌, List, [], ◌∷◌, ◌++◌, None, Some, refl, sym, ap, subst, ◌∙◌, arith, append_assoc}
 use Rattle.std.proofs.lemmas.List.Elements.{All-cons, All-head, All-tail}
 use Rattle.std.proofs.lemmas.List.Sums.{sum_by-cons}
 use Rattle.std.specs.Prelude.{ℤ, unsigned_abs}
@@ -85,11 +85,11 @@ writes_split p b cell axis at old new before after grids lies is cut e f = recor
   lies = λ all. rw e (All-cons (LiesIn p.families) (parts_at axis at b).0 ((parts_at axis at b).1 ∷ old) parts.low_lies
       (All-cons (LiesIn p.families) (parts_at axis at b).1 old parts.high_lies all));
   nodes = rw e (omega (
-        arith,
-        nodes_split p b axis at grids lies is.below cut,
-        sum_by-cons (nodes_of p) (parts_at axis at b).0 ((parts_at axis at b).1 ∷ old),
-        sum_by-cons (nodes_of p) (parts_at axis at b).1 old,
-      ));
+    arith,
+    nodes_split p b axis at grids lies is.below cut,
+    sum_by-cons (nodes_of p) (parts_at axis at b).0 ((parts_at axis at b).1 ∷ old),
+    sum_by-cons (nodes_of p) (parts_at axis at b).1 old,
+  ));
 }
   where
     low : List Node

@@ -1,5 +1,5 @@
 -- The best of the single designs that a search has evaluated.
-use Rattle.std.specs.Prelude.{◌≡◌, ℕ, pos, unsigned_abs, Option, None, Some, option_map, if◌then◌else◌}
+use Rattle.std.specs.Prelude.{◌≡◌, pos, unsigned_abs, Option, None, Some, option_map, if◌then◌else◌}
 use Rattle.ldp_design.specs.Designs.{IsAdmitted}
 use Rattle.ldp_problem.specs.declared.pair.Pair.{Pair}
 use Rattle.ldp_problem.specs.Problem.{Problem}

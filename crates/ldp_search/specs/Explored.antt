@@ -1,7 +1,6 @@
 -- How far a search has come: each usable design is accounted for, and so is each node of the
 -- canonical forest. (Own choice of this project.)
 use Rattle.std.specs.Prelude.{◌≡◌, ◌+◌, ◌<◌, ℕ, false, List, [], ◌∷◌, length, Option, None, Some, option_map, All, Any, sum_by}
-use Rattle.std.specs.List.Sorted.{IsPermutation}
 use Rattle.ldp_design.specs.declared.design.Design.{Design}
 use Rattle.ldp_design.specs.declared.design_box.DesignBox.{DesignBox}
 use Rattle.ldp_design.specs.Families.{AreGrids}

@@ -63,12 +63,12 @@ pub fn search<B: Bounds>(
 
 fn found(best: Candidate, forest: Forest, nodes: u32) -> Found
     ensures { result ≡ record {
-        design = best.design;
-        over = best.over;
-        worst = best.worst;
-        cell = best.cell;
-        forest = forest;
-        nodes = nodes;
+      design = best.design;
+      over = best.over;
+      worst = best.worst;
+      cell = best.cell;
+      forest = forest;
+      nodes = nodes;
     } }
 {
     Found {

@@ -4,6 +4,7 @@
 //! split. A second pass writes the forest, and asks for each bound again in place of keeping it.
 #![tactic(auto)]
 
+mod best_first;
 mod bounded_box;
 mod candidate;
 mod evaluate;
@@ -11,12 +12,11 @@ mod explore;
 mod fault;
 mod found;
 mod frontier;
-mod best_first;
 mod stack;
 mod state;
 mod write;
 
+pub use best_first::search;
 pub use fault::SearchFault;
 pub use found::Found;
-pub use best_first::search;
 pub use std::alloc::AllocError as Memory;

@@ -1,5 +1,4 @@
-use Rattle.std.proofs.Common.{◌≡◌, ◌≤◌, ◌+◌, ◌∷◌, [], ◌++◌, length, refl, sym, ap, subst, ◌∙◌, arith}
-use Rattle.ldp_design.specs.declared.node.Node.TheVariants.{Tree}
+use Rattle.std.proofs.Common.{◌≡◌, ◌≤◌, ◌+◌, ◌∷◌, ◌++◌, length, ap, subst, ◌∙◌, arith}
 use Rattle.ldp_search.specs.Written.{trees_of}
 use Rattle.ldp_search.specs.Explored.{nodes_of_all}
 use Rattle.ldp_search.proofs.Families.{next_written, next_counted, some_counted, all_written}

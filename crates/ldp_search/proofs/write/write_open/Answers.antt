@@ -1,8 +1,8 @@
-use Rattle.std.proofs.Common.{◌≡◌, ◌∷◌, None, Some, subst, sym, ap, ◌∙◌}
+use Rattle.std.proofs.Common.{◌≡◌, ◌∷◌, subst, sym, ap, ◌∙◌}
 use Rattle.std.proofs.lemmas.Result.{on_ok_weaker}
 use Rattle.ldp_design.specs.Families.{AreGrids}
 use Rattle.ldp_design.specs.Boxes.{LiesIn}
-use Rattle.ldp_design.specs.Splits.{cut_for, parts_at}
+use Rattle.ldp_design.specs.Splits.{cut_for}
 use Rattle.ldp_search.proofs.Writing.{writes_single, writes_split}
 use Rattle.ldp_search.proofs.write.write_open.Goals as goal
 

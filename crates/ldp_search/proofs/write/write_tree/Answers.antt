@@ -1,4 +1,4 @@
-use Rattle.std.proofs.Common.{◌≡◌, ◌≤◌, ◌∷◌, refl, ap, sym, subst, ◌∙◌, arith}
+use Rattle.std.proofs.Common.{◌≤◌, refl, sym, subst, ◌∙◌, arith}
 use Rattle.ldp_design.specs.Families.{AreGrids}
 use Rattle.ldp_search.specs.Explored.{nodes_of}
 use Rattle.ldp_search.specs.Written.{Writes}
