@@ -35,7 +35,7 @@ abbrev pub leaf_pair : Problem → DesignBox → ℕ → Pair
 leaf_pair p b cell =
     record { over = beyond p.tolerance (lows p b); value = p.lower b cell }
 
--- it is below the printed cost; without a tolerance the distortions are compared alone
+-- what is shown is below the printed cost; without a tolerance the distortions are compared alone
 abbrev pub open_fault : Option ℕ → Pair → ℕ → Pair → Option Reason
 open_fault None printed line shown =
     then_some (nat_lt shown.value printed.value) (LeafOpen line (pos shown.value))
