@@ -1,7 +1,8 @@
 -- The verdict on a certificate: the first of the reasons against it, in this order. (Own choice of
 -- this project.)
 use Rattle.std.specs.Prelude.{◌≡◌, ℕ, pos, ◌+◌, ℤ, ◌==◌, ◌&&◌, not, Bool, false, nat_lt}
-use Rattle.std.specs.Prelude.{List, [], ◌∷◌, Option, None, Some, option_map, option_and_then, IfSome}
+use Rattle.std.specs.Prelude.{List, [], ◌∷◌, Option, None, Some, option_map, option_and_then}
+use Rattle.std.specs.Prelude.{IfSome}
 use Rattle.std.specs.Bool.{then_some}
 use Rattle.std.specs.Ordering.{int_eq}
 use Rattle.ldp_design.specs.declared.family.Family.{Family}
@@ -18,7 +19,9 @@ use Rattle.ldp_job.specs.declared.report.Report.{Report}
 use Rattle.ldp_job.specs.declared.share.Share.{Share}
 use Rattle.ldp_job.specs.declared.job.Job.{Job}
 use Rattle.ldp_check.specs.declared.reason.Reason.{Reason}
-use Rattle.ldp_check.specs.declared.reason.Reason.TheVariants.{OtherInput, NotAdmissible, DesignUnusable, OverDiffers, WorstDiffers, ReportDiffers}
+use Rattle.ldp_check.specs.declared.reason.Reason.TheVariants.{OtherInput, NotAdmissible}
+use Rattle.ldp_check.specs.declared.reason.Reason.TheVariants.{DesignUnusable, OverDiffers}
+use Rattle.ldp_check.specs.declared.reason.Reason.TheVariants.{WorstDiffers, ReportDiffers}
 use Rattle.ldp_check.specs.declared.verdict.Verdict.{Verdict}
 use Rattle.ldp_check.specs.declared.verdict.Verdict.TheVariants.{Accepted, Rejected}
 use Rattle.ldp_check.specs.Reports.{report_of, differing_line}
