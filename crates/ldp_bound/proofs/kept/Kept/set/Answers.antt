@@ -8,8 +8,8 @@ returns-clause-ready c = record {
       c.args.self.now.full.full c.family.result.now.kind
       (is_south c.family.result.now) c.in_ok-prepared.prepared.now
       (sym c.in_ok-prepared.ensures);
-  room = c.lists-lists.ensures.room;
+  room = c.lists.ensures.room;
   inputs =
-      subst (λ (lists : _). lists.joint.inputs ≤ 16) c.lists-lists.ensures.lists
+      subst (λ (lists : _). lists.joint.inputs ≤ 16) c.lists.ensures.lists
       c.inputs-inputs.ensures.few;
 }
