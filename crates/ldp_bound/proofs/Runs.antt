@@ -1,6 +1,6 @@
 -- Runs of lists in a carrier, as values over what it means.
-use Rattle.std.proofs.Common.{◌≡◌, ℕ, Bool, true, false, ℤ, List, [], ◌∷◌, map, length, take, refl, sym, ap, ◌∙◌}
-use Rattle.std.specs.Prelude.{Option, Some, None, option_map, if◌then◌else◌}
+use Rattle.std.proofs.Common.{◌≡◌, Bool, true, false, ℤ, List, [], ◌∷◌, map, refl, sym, ap, ◌∙◌}
+use Rattle.std.specs.Prelude.{Some, None, option_map, if◌then◌else◌}
 use Rattle.ldp_num.specs.declared.fix.Fix.{Fix}
 use Rattle.ldp_num.specs.Written.{written, range_ops, plain_out, pair_out}
 use Rattle.ldp_num.specs.StepList.{StepList, value, value_in}
@@ -35,7 +35,8 @@ run_numbers list inputs defined results h =
 
 -- a run of ranges is a run over pairs
 pub run_pairs : (list : StepList) (inputs : List (ℤ × ℤ)) (defined : Bool) (results : List (ℤ × ℤ))
-    → value_in (written 1) list (map pair_out inputs) ≡ (if defined then Some (map pair_out results) else None)
+    → value_in (written 1) list (map pair_out inputs)
+    ≡ (if defined then Some (map pair_out results) else None)
     → value_in range_ops list inputs ≡ (if defined then Some results else None)
 run_pairs list inputs defined results h =
     pair_told list inputs (if defined then Some results else None) (h ∙ pairs_found defined results)

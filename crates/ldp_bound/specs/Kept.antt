@@ -1,5 +1,7 @@
 -- What a bounder keeps of cells: for each kind that some family has, the results of its cell list.
-use Rattle.std.specs.Prelude.{◌≡◌, ◌≤◌, ℕ, Bool, true, false, ℤ, List, length, take, slice_get, Option, None, Some, option_map, option_and_then, unsigned_abs, if◌then◌else◌}
+use Rattle.std.specs.Prelude.{◌≡◌, ◌≤◌, ℕ, Bool, true, false, ℤ, List, length, take, slice_get}
+use Rattle.std.specs.Prelude.{Option, None, Some, option_map, option_and_then, unsigned_abs}
+use Rattle.std.specs.Prelude.{if◌then◌else◌}
 use Rattle.std.specs.List.{list_any}
 use Rattle.ldp_num.specs.Steps.{most_steps}
 use Rattle.ldp_num.specs.declared.fix.Fix.{Fix}

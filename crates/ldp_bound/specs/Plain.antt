@@ -1,6 +1,7 @@
 -- The problem of families of designs over cells, where the distortion of a box is bounded by its
 -- range alone.
-use Rattle.std.specs.Prelude.{ℕ, ℤ, pos, ◌≤ℤ◌, List, [], ◌∷◌, length, slice_get, Option, None, Some, option_map, option_and_then, unsigned_abs}
+use Rattle.std.specs.Prelude.{ℕ, ℤ, pos, ◌≤ℤ◌, List, [], ◌∷◌, length, slice_get, Option, None, Some}
+use Rattle.std.specs.Prelude.{option_map, option_and_then, unsigned_abs}
 use Rattle.ldp_num.specs.Number.{limit}
 use Rattle.ldp_num.specs.Written.{Ops, number_ops, range_ops}
 use Rattle.ldp_range.specs.Range.{pair_low_abs}
@@ -41,7 +42,8 @@ unfoldable pub distortion_at : {A : Type 0} → Ops A → List Family → List C
 distortion_at ops families cells number inputs i =
     option_and_then
     (λ f. option_and_then
-    (λ cell. distortion_in ops (family_lists f) (inputs f) (cell_results (family_lists f).cell cell))
+    (λ cell. distortion_in ops (family_lists f) (inputs f)
+    (cell_results (family_lists f).cell cell))
     (slice_get cells i))
     (family_of families number)
 

@@ -1,5 +1,6 @@
 -- What is told of the values at cells.
-use Rattle.std.specs.Prelude.{ℕ, nat_lt, List, Option, None, Some, position, unwrap_or, if◌then◌else◌}
+use Rattle.std.specs.Prelude.{ℕ, nat_lt, List, Option, None, Some, position, unwrap_or}
+use Rattle.std.specs.Prelude.{if◌then◌else◌}
 use Rattle.std.specs.Option.{is_none}
 use Rattle.ldp_problem.specs.Costs.{at_cells, beyond, largest, first_largest, tally, cost_answer}
 use Rattle.ldp_problem.specs.declared.bound.Bound.{Bound}

@@ -56,8 +56,8 @@ impl Kept {
         ensures ready { IfSome result (λ p. IsReady self.now.count p.now) }
     {
         let prepared = self.kinds.of(self.grids.family(number))?;
-        let lists = prepared.lists();
-        let _inputs = lists.joint.inputs();
+        // No list has more than 16 inputs.
+        let _inputs = prepared.lists().joint.inputs();
         Some(prepared)
     }
 }

@@ -7,7 +7,8 @@ use Rattle.ldp_problem.specs.declared.pair.Pair.{Pair}
 use Rattle.ldp_problem.specs.declared.bound.Bound.TheVariants as bounds
 use Rattle.ldp_problem.specs.declared.cost.Cost.TheVariants as costs
 use Rattle.ldp_problem.specs.Problem.{Problem}
-use Rattle.ldp_problem.specs.Costs.{bound, bound_answer, bound_of, bound_cell, unusable_at, cost, cost_answer, cost_of, first_undefined, worst_cell}
+use Rattle.ldp_problem.specs.Costs.{bound, bound_answer, bound_of, bound_cell, unusable_at, cost}
+use Rattle.ldp_problem.specs.Costs.{cost_answer, cost_of, first_undefined, worst_cell}
 
 low_by : (undefined : Option ℕ) (pair : Pair) (at over cell : ℕ) (value : ℤ)
     → bounds.Low over value cell ≡ bound_answer undefined pair at → over ≡ pair.over
@@ -17,7 +18,8 @@ low_by None pair at over cell value e = cc
 pub low_over : (p : Problem) (b : DesignBox) (over cell : ℕ) (value : ℤ)
     → bounds.Low over value cell ≡ bound_of p b → over ≡ (bound p b).over
 unfolding bound_of
-low_over p b over cell value e = low_by (unusable_at p b) (bound p b) (bound_cell p b) over cell value e
+low_over p b over cell value e =
+    low_by (unusable_at p b) (bound p b) (bound_cell p b) over cell value e
 
 pub record IsCost (p : Problem) (d : Design) (over : ℕ) (value : ℤ) (cell : ℕ) : Type 0 where
   pub none : first_undefined p d ≡ None
@@ -25,12 +27,16 @@ pub record IsCost (p : Problem) (d : Design) (over : ℕ) (value : ℤ) (cell : 
   pub same_value : value ≡ pos (cost p d).value
   pub same_cell : cell ≡ worst_cell p d
 
-cost_by : (p : Problem) (d : Design) (undefined : Option ℕ) (over cell : ℕ) (value : ℤ) → first_undefined p d ≡ undefined
-    → costs.Is over value cell ≡ cost_answer undefined (cost p d) (worst_cell p d) → IsCost p d over value cell
+cost_by : (p : Problem) (d : Design) (undefined : Option ℕ) (over cell : ℕ) (value : ℤ)
+    → first_undefined p d ≡ undefined
+    → costs.Is over value cell ≡ cost_answer undefined (cost p d) (worst_cell p d)
+    → IsCost p d over value cell
 cost_by p d (Some undefined) over cell value h e = absurd cc
-cost_by p d None over cell value h e = record { none = h; same_over = cc; same_value = cc; same_cell = cc }
+cost_by p d None over cell value h e =
+    record { none = h; same_over = cc; same_value = cc; same_cell = cc }
 
-pub cost_is : (p : Problem) (d : Design) (over cell : ℕ) (value : ℤ) → costs.Is over value cell ≡ cost_of p d
+pub cost_is : (p : Problem) (d : Design) (over cell : ℕ) (value : ℤ)
+    → costs.Is over value cell ≡ cost_of p d
     → IsCost p d over value cell
 unfolding cost_of
 cost_is p d over cell value e = cost_by p d (first_undefined p d) over cell value refl e

@@ -24,7 +24,8 @@ first_in f b h = record { family = refl; low = low; high = high }
     high Azimuth = h.some Azimuth
     high Scale = h.some Scale
 
-pub first_admitted : (families : List Family) (b : DesignBox) (d : Design) → LiesIn families b → d ≡ first_of b
+pub first_admitted : (families : List Family) (b : DesignBox) (d : Design) → LiesIn families b
+    → d ≡ first_of b
     → IsAdmitted families d
 first_admitted families b d h e =
     rw e (boxes_are_admitted families b (first_of b) h (first_in h.family b h.within))

@@ -1,5 +1,6 @@
 -- The nodes of a forest, counted, and how many entries there are beside them.
-use Rattle.std.proofs.Common.{◌≡◌, ◌≤◌, ◌+◌, ◌*◌, ℕ, zero, suc, min, true, cond, List, [], ◌∷◌, length, drop, Some, refl, ap, ◌∙◌, arith}
+use Rattle.std.proofs.Common.{◌≡◌, ◌≤◌, ◌+◌, ◌*◌, ℕ, zero, suc, min, true, cond, List, [], ◌∷◌}
+use Rattle.std.proofs.Common.{length, drop, Some, refl, ap, ◌∙◌, arith}
 use Rattle.std.specs.Prelude.{slice_get, if◌then◌else◌}
 use Rattle.std.proofs.lemmas.List.{drop_more, drop_all}
 use Rattle.std.proofs.lemmas.List.Sums.{sum_by-cons}
@@ -13,7 +14,8 @@ pub count_first : (entry : Node) (entries : List Node)
 count_first entry entries = sum_by-cons (λ n. cond (is_node n) 1 0) entry entries
 
 -- the next entry, counted with those before it
-pub count_next : (entries : List Node) (i nodes value : ℕ) (entry : Node) → slice_get entries i ≡ Some entry
+pub count_next : (entries : List Node) (i nodes value : ℕ) (entry : Node)
+    → slice_get entries i ≡ Some entry
     → value ≡ (if is_node entry then 1 else 0)
     → nodes + node_count (drop i entries) ≡ node_count entries
     → (nodes + value) + node_count (drop (i + 1) entries) ≡ node_count entries
@@ -36,7 +38,8 @@ few_trees : (entries : List Node) (pending : ℕ) → is_shaped entries pending 
     → length entries + min pending 1 ≤ 2 * node_count entries
 few_trees [] zero h = omega arith
 few_trees [] (suc pending) h = absurd cc
-few_trees (Tree number ∷ entries) zero h = omega (arith, count_first (Tree number) entries, few_trees entries 1 h)
+few_trees (Tree number ∷ entries) zero h =
+    omega (arith, count_first (Tree number) entries, few_trees entries 1 h)
 few_trees (Tree number ∷ entries) (suc pending) h = absurd cc
 few_trees (Split axis cut ∷ entries) zero h = absurd cc
 few_trees (Split axis cut ∷ entries) (suc pending) h =

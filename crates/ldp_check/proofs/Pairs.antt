@@ -9,5 +9,6 @@ pub at_most_trans : (a b c : Pair) → AtMost a b → AtMost b c → AtMost a c
 at_most_trans a b c h k = grind (arith, nat_tests)
 
 -- where no cells are counted, the distortions decide
-pub at_most_values : (a b : Pair) → a.over ≡ 0 → b.over ≡ 0 → nat_lt b.value a.value ≡ false → AtMost a b
+pub at_most_values : (a b : Pair) → a.over ≡ 0 → b.over ≡ 0 → nat_lt b.value a.value ≡ false
+    → AtMost a b
 at_most_values a b h k l = grind (arith, nat_tests)

@@ -1,5 +1,6 @@
 -- The first reason against a certificate, and what follows where there is none.
-use Rattle.std.proofs.Common.{◌≡◌, ℕ, ℤ, pos, Bool, true, false, List, [], ◌∷◌, Option, Some, None, refl, subst, ◌∙◌, inl, arith}
+use Rattle.std.proofs.Common.{◌≡◌, ℕ, ℤ, pos, Bool, true, false, List, [], ◌∷◌, Option, Some, None}
+use Rattle.std.proofs.Common.{refl, subst, ◌∙◌, inl, arith}
 use Rattle.std.proofs.lemmas.Bool.Decides.{nat_tests}
 use Rattle.std.proofs.lemmas.List.Elements.{All-nil}
 use Rattle.std.specs.Prelude.{IfSome, IsTrue, ◌↔◌, option_map, unsigned_abs}
@@ -22,12 +23,17 @@ use Rattle.ldp_job.specs.declared.names.Role.{Role}
 use Rattle.ldp_job.specs.declared.share.Share.{Share}
 use Rattle.ldp_job.specs.declared.job.Job.{Job}
 use Rattle.ldp_check.specs.declared.reason.Reason.{Reason}
-use Rattle.ldp_check.specs.declared.reason.Reason.TheVariants.{OtherInput, NotAdmissible, DesignUnusable}
+use Rattle.ldp_check.specs.declared.reason.Reason.TheVariants.{OtherInput, NotAdmissible}
+use Rattle.ldp_check.specs.declared.reason.Reason.TheVariants.{DesignUnusable}
 use Rattle.ldp_check.specs.declared.verdict.Verdict.TheVariants.{Accepted}
 use Rattle.ldp_check.specs.Reports.{report_of}
 use Rattle.ldp_check.specs.Inputs.{other_input}
 use Rattle.ldp_check.specs.Printed.{printed, printed_over, forest_line, SameTolerance}
-use Rattle.ldp_check.specs.Verdicts.{has_design, is_design_of, is_admitted, input_differs, not_admitted, not_usable, other_over, other_worst, other_report, over_differs, worst_differs, report_differs, forest_fault, first_some, reason_against, verdict_by, AcceptedAreProved}
+use Rattle.ldp_check.specs.Verdicts.{has_design, is_design_of, is_admitted, input_differs}
+use Rattle.ldp_check.specs.Verdicts.{not_admitted, not_usable, other_over, other_worst}
+use Rattle.ldp_check.specs.Verdicts.{other_report, over_differs, worst_differs, report_differs}
+use Rattle.ldp_check.specs.Verdicts.{forest_fault, first_some, reason_against, verdict_by}
+use Rattle.ldp_check.specs.Verdicts.{AcceptedAreProved}
 use Rattle.ldp_check.proofs.Answered.{IsCost}
 use Rattle.ldp_check.proofs.Faults.{holds}
 use Rattle.ldp_check.proofs.Covered.{CountsNone, known, covered}
@@ -44,18 +50,22 @@ design_is f d e = record {
 has_it : (f : Family) (d : Design) → IsDesignOf f d → has_design f d ≡ true
 has_it f d h = grind (arith, nat_tests, h.lat, h.lon, h.azimuth, h.scale)
 
-admitted_by : (families : List Family) (d : Design) (f : Option Family) → family_of families d.family ≡ f
+admitted_by : (families : List Family) (d : Design) (f : Option Family)
+    → family_of families d.family ≡ f
     → is_design_of f d ≡ true → IsAdmitted families d
 admitted_by families d None e h = absurd cc
 admitted_by families d (Some f) e h = record { family = f; found = e; within = design_is f d h }
 
-pub admitted_is : (families : List Family) (d : Design) → is_admitted families d ≡ true → IsAdmitted families d
+pub admitted_is : (families : List Family) (d : Design) → is_admitted families d ≡ true
+    → IsAdmitted families d
 admitted_is families d h = admitted_by families d (family_of families d.family) refl h
 
-pub is_admitted_true : (families : List Family) (d : Design) → IsAdmitted families d → is_admitted families d ≡ true
+pub is_admitted_true : (families : List Family) (d : Design) → IsAdmitted families d
+    → is_admitted families d ≡ true
 is_admitted_true families d h = rw h.found (has_it h.family d h.within)
 
-pub is_admitted_false : (families : List Family) (d : Design) (answer : Bool) → (IsTrue answer ↔ IsAdmitted families d)
+pub is_admitted_false : (families : List Family) (d : Design) (answer : Bool)
+    → (IsTrue answer ↔ IsAdmitted families d)
     → answer ≡ false → is_admitted families d ≡ false
 is_admitted_false families d answer h e = by_test (is_admitted families d) refl
   where
@@ -65,7 +75,8 @@ is_admitted_false families d answer h e = by_test (is_admitted families d) refl
 
 -- the first reason, found in the order of the list
 pub input_first : (p : Problem) (list : CellList) (names : Names) (job : Job) (which : Role)
-    → other_input names job.names ≡ Some which → reason_against p list names job ≡ Some (OtherInput which)
+    → other_input names job.names ≡ Some which
+    → reason_against p list names job ≡ Some (OtherInput which)
 input_first p list names job which e = rw e refl
 
 pub not_admitted_first : (p : Problem) (list : CellList) (names : Names) (job : Job)
@@ -74,12 +85,14 @@ pub not_admitted_first : (p : Problem) (list : CellList) (names : Names) (job : 
 not_admitted_first p list names job e h = rw (e, h) refl
 
 pub unusable_first : (p : Problem) (list : CellList) (names : Names) (job : Job) (cell : ℕ)
-    → other_input names job.names ≡ None → is_admitted p.families job.design ≡ true → first_undefined p job.design ≡ Some cell
+    → other_input names job.names ≡ None → is_admitted p.families job.design ≡ true
+    → first_undefined p job.design ≡ Some cell
     → reason_against p list names job ≡ Some (DesignUnusable cell)
 unusable_first p list names job cell e h k = rw (e, h, k) refl
 
 -- the reasons against what is printed, and those behind them
-first_three : (a b c rest : Option Reason) → first_some (a ∷ b ∷ c ∷ rest ∷ []) ≡ option_or (first_some (a ∷ b ∷ c ∷ [])) rest
+first_three : (a b c rest : Option Reason) → first_some (a ∷ b ∷ c ∷ rest ∷ []) ≡ option_or
+    (first_some (a ∷ b ∷ c ∷ [])) rest
 first_three (Some r) b c rest = refl
 first_three None (Some r) c rest = refl
 first_three None None (Some r) rest = refl
@@ -87,28 +100,36 @@ first_three None None None (Some r) = refl
 first_three None None None None = refl
 
 -- the reasons against what is printed, by the answers of a bounder
-printed_is : (p : Problem) (list : CellList) (job : Job) (families : List Family) (over cell : ℕ) (value : ℤ)
+printed_is : (p : Problem) (list : CellList) (job : Job) (families : List Family) (over cell : ℕ)
+    (value : ℤ)
     → IsCost p job.design over value cell → p.families ≡ families
     → first_some (other_over job.share over ∷ other_worst job.worst value
-    ∷ other_report job.names job.report (report_of families list job.design value cell (node_count job.forest)) ∷ [])
+    ∷ other_report job.names job.report (report_of families list job.design value cell
+    (node_count job.forest)) ∷ [])
     ≡ first_some (over_differs p job ∷ worst_differs p job ∷ report_differs p list job ∷ [])
-printed_is p list job families over cell value h e = rw (h.same_over, h.same_value, h.same_cell, ← e) refl
+printed_is p list job families over cell value h e =
+    rw (h.same_over, h.same_value, h.same_cell, ← e) refl
 
 -- the reason is found before the forest, or it is that of the forest
-pub known_reason : (p : Problem) (list : CellList) (names : Names) (job : Job) (families : List Family) (over cell : ℕ) (value : ℤ)
+pub known_reason : (p : Problem) (list : CellList) (names : Names) (job : Job)
+    (families : List Family) (over cell : ℕ) (value : ℤ)
     (answer : Option Reason) → other_input names job.names ≡ None → IsAdmitted p.families job.design
     → IsCost p job.design over value cell → p.families ≡ families
     → answer ≡ first_some (other_over job.share over ∷ other_worst job.worst value
-    ∷ other_report job.names job.report (report_of families list job.design value cell (node_count job.forest)) ∷ [])
+    ∷ other_report job.names job.report (report_of families list job.design value cell
+    (node_count job.forest)) ∷ [])
     → reason_against p list names job ≡ option_or answer (forest_fault p job)
 known_reason p list names job families over cell value answer e admitted h same k =
-    let told : answer ≡ first_some (over_differs p job ∷ worst_differs p job ∷ report_differs p list job ∷ []) =
+    let told : answer ≡ first_some (over_differs p job ∷ worst_differs p job ∷ report_differs p list
+    job ∷ []) =
     k ∙ printed_is p list job families over cell value h same in
     rw (e, is_admitted_true p.families job.design admitted, h.none, told)
-    (first_three (over_differs p job) (worst_differs p job) (report_differs p list job) (forest_fault p job))
+    (first_three (over_differs p job) (worst_differs p job) (report_differs p list job)
+    (forest_fault p job))
 
 -- no reason
-none_in : (o : Option Reason) (rest : List (Option Reason)) → first_some (o ∷ rest) ≡ None → (o ≡ None) × (first_some rest ≡ None)
+none_in : (o : Option Reason) (rest : List (Option Reason)) → first_some (o ∷ rest) ≡ None
+    → (o ≡ None) × (first_some rest ≡ None)
 none_in None rest e = (refl, e)
 none_in (Some r) rest e = absurd cc
 
@@ -121,7 +142,8 @@ record AreNone (input admitted usable over worst report forest : Option Reason) 
   report_none : report ≡ None
   forest_none : forest ≡ None
 
-all_none : (a b c d e f g : Option Reason) → first_some (a ∷ b ∷ c ∷ d ∷ e ∷ f ∷ g ∷ []) ≡ None → AreNone a b c d e f g
+all_none : (a b c d e f g : Option Reason) → first_some (a ∷ b ∷ c ∷ d ∷ e ∷ f ∷ g ∷ []) ≡ None
+    → AreNone a b c d e f g
 all_none a b c d e f g h =
     let past_a = none_in a (b ∷ c ∷ d ∷ e ∷ f ∷ g ∷ []) h in
     let past_b = none_in b (c ∷ d ∷ e ∷ f ∷ g ∷ []) past_a.1 in
@@ -147,7 +169,8 @@ no_reason : (o : Option Reason) → verdict_by o ≡ Accepted → o ≡ None
 no_reason None e = refl
 no_reason (Some r) e = absurd cc
 
-same_over : (share : Option Share) (over : ℕ) → other_over share over ≡ None → IfSome share (λ s. s.over ≡ over)
+same_over : (share : Option Share) (over : ℕ) → other_over share over ≡ None
+    → IfSome share (λ s. s.over ≡ over)
 same_over None over e = tt
 same_over (Some s) over e = let h = holds _ _ e in grind (arith, nat_tests)
 
@@ -155,39 +178,53 @@ same_worst : (worst actual : ℤ) → other_worst worst actual ≡ None → wors
 same_worst worst actual e = (signed_Decides worst actual).0 (holds _ _ e)
 
 -- what is printed without a tolerance
-no_share : (p : Problem) (share : Option Share) → SameTolerance p share → p.tolerance ≡ None → printed_over share ≡ 0
+no_share : (p : Problem) (share : Option Share) → SameTolerance p share → p.tolerance ≡ None
+    → printed_over share ≡ 0
 no_share p None h e = refl
 no_share p (Some s) h e = absurd cc
 
-same_pair : (p : Problem) (share : Option Share) (d : Design) → SameTolerance p share → IfSome share (λ s. s.over ≡ (cost p d).over)
+same_pair : (p : Problem) (share : Option Share) (d : Design) → SameTolerance p share
+    → IfSome share (λ s. s.over ≡ (cost p d).over)
     → printed_over share ≡ (cost p d).over
 same_pair p None d h e = rw (none_mapped pos p.tolerance h) refl
 same_pair p (Some s) d h e = e
 
-printed_cost : (p : Problem) (job : Job) → SameTolerance p job.share → other_over job.share (cost p job.design).over ≡ None
+printed_cost : (p : Problem) (job : Job) → SameTolerance p job.share
+    → other_over job.share (cost p job.design).over ≡ None
     → job.worst ≡ pos (cost p job.design).value → printed job ≡ cost p job.design
 printed_cost p job h e k =
-    let over : printed_over job.share ≡ (cost p job.design).over = same_pair p job.share job.design h (same_over job.share _ e) in
+    let over : printed_over job.share ≡ (cost p job.design).over =
+    same_pair p job.share job.design h (same_over job.share _ e) in
     let value : unsigned_abs job.worst ≡ (cost p job.design).value = rw k refl in
     rw (over, value) refl
 
 pub accepted_are_proved : AcceptedAreProved
 accepted_are_proved p list names job sound grids tolerance shape accepted =
-    let none : AreNone (input_differs names job) (not_admitted p job) (not_usable p job) (over_differs p job) (worst_differs p job)
+    let none : AreNone (input_differs names job) (not_admitted p job) (not_usable p job)
+    (over_differs p job) (worst_differs p job)
     (report_differs p list job) (forest_fault p job) =
-    all_none (input_differs names job) (not_admitted p job) (not_usable p job) (over_differs p job) (worst_differs p job)
-    (report_differs p list job) (forest_fault p job) (no_reason (reason_against p list names job) accepted) in
-    let value : job.worst ≡ pos (cost p job.design).value = same_worst job.worst (pos (cost p job.design).value) none.worst_none in
-    let pair : printed job ≡ cost p job.design = printed_cost p job tolerance none.over_none value in
+    all_none (input_differs names job) (not_admitted p job) (not_usable p job) (over_differs p job)
+    (worst_differs p job)
+    (report_differs p list job) (forest_fault p job)
+    (no_reason (reason_against p list names job) accepted) in
+    let value : job.worst ≡ pos (cost p job.design).value =
+    same_worst job.worst (pos (cost p job.design).value) none.worst_none in
+    let pair : printed job ≡ cost p job.design =
+    printed_cost p job tolerance none.over_none value in
     let counts : CountsNone p (printed job) = no_share p job.share tolerance in
     record {
-      admissible = admitted_is p.families job.design (holds (is_admitted p.families job.design) NotAdmissible none.admitted_none);
-      usable = none_undefined p job.design (none_mapped DesignUnusable (first_undefined p job.design) none.usable_none);
+      admissible =
+          admitted_is p.families job.design (holds (is_admitted p.families job.design) NotAdmissible
+          none.admitted_none);
+      usable =
+          none_undefined p job.design (none_mapped DesignUnusable (first_undefined p job.design)
+          none.usable_none);
       worst = value;
       over = same_over job.share (cost p job.design).over none.over_none;
       smallest = λ d is defined.
           subst (λ (w : Pair). AtMost w (cost p d)) pair
-          (covered p (printed job) sound grids counts d is defined job.forest (forest_line job.names) 0 []
+          (covered p (printed job) sound grids counts d is defined job.forest
+          (forest_line job.names) 0 []
           (All-nil (LiesIn p.families)) shape.shape none.forest_none
           (inl (known p.families d.family is.family is.found).0));
     }

@@ -16,7 +16,9 @@ use Rattle.ldp_problem.specs.Problem.{Problem}
 use Rattle.ldp_problem.specs.Pairs.{is_smaller}
 use Rattle.ldp_problem.specs.Costs.{beyond, lows}
 use Rattle.ldp_check.specs.declared.reason.Reason.{Reason}
-use Rattle.ldp_check.specs.declared.reason.Reason.TheVariants.{TreeOutOfPlace, BadSplit, NoSuchCell, LeafOpen, ShareOpen, NotUnusable, FamilyMissing}
+use Rattle.ldp_check.specs.declared.reason.Reason.TheVariants.{TreeOutOfPlace, BadSplit, NoSuchCell}
+use Rattle.ldp_check.specs.declared.reason.Reason.TheVariants.{LeafOpen, ShareOpen, NotUnusable}
+use Rattle.ldp_check.specs.declared.reason.Reason.TheVariants.{FamilyMissing}
 
 -- the next tree is not that of the family with its number, or there is no such family
 abbrev pub tree_fault : List Family → ℕ → ℕ → ℕ → Option Reason
@@ -35,7 +37,7 @@ abbrev pub leaf_pair : Problem → DesignBox → ℕ → Pair
 leaf_pair p b cell =
     record { over = beyond p.tolerance (lows p b); value = p.lower b cell }
 
--- it is below the printed cost; without a tolerance the distortions are compared alone
+-- what is shown is below the printed cost; without a tolerance the distortions are compared alone
 abbrev pub open_fault : Option ℕ → Pair → ℕ → Pair → Option Reason
 open_fault None printed line shown =
     then_some (nat_lt shown.value printed.value) (LeafOpen line (pos shown.value))

@@ -6,7 +6,7 @@ use Rattle.ldp_job.specs.declared.names.Names.{Names}
 use Rattle.ldp_job.specs.declared.share.Share.{Share}
 use Rattle.ldp_job.specs.declared.job.Job.{Job}
 
--- no cell counts without a tolerance
+-- the printed number of cells beyond the tolerance; none without one
 abbrev pub printed_over : Option Share → ℕ
 printed_over None = 0
 printed_over (Some share) = share.over

@@ -35,6 +35,7 @@ report_of families list d worst cell nodes =
     option_map (λ (f, at). report_at f at list d worst nodes)
     (option_zip (family_of families d.family) (slice_get list.cells cell))
 
+-- the kinds are the same
 abbrev pub is_kind : Kind → Kind → Bool
 is_kind Tm Tm = true
 is_kind Lambert Lambert = true
@@ -42,9 +43,11 @@ is_kind Hotine Hotine = true
 is_kind Lambert2 Lambert2 = true
 is_kind _ _ = false
 
+-- the worst distortions are at the same place of the grid of heights
 abbrev pub same_place : Report → Report → Bool
 same_place a b = a.row == b.row && a.col == b.col
 
+-- the numbers of cells and of missing heights are the same
 abbrev pub same_cells : Report → Report → Bool
 same_cells a b = a.cells == b.cells && a.missing == b.missing
 

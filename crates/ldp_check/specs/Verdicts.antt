@@ -1,7 +1,8 @@
 -- The verdict on a certificate: the first of the reasons against it, in this order. (Own choice of
 -- this project.)
 use Rattle.std.specs.Prelude.{◌≡◌, ℕ, pos, ◌+◌, ℤ, ◌==◌, ◌&&◌, not, Bool, false, nat_lt}
-use Rattle.std.specs.Prelude.{List, [], ◌∷◌, Option, None, Some, option_map, option_and_then, IfSome}
+use Rattle.std.specs.Prelude.{List, [], ◌∷◌, Option, None, Some, option_map, option_and_then}
+use Rattle.std.specs.Prelude.{IfSome}
 use Rattle.std.specs.Bool.{then_some}
 use Rattle.std.specs.Ordering.{int_eq}
 use Rattle.ldp_design.specs.declared.family.Family.{Family}
@@ -18,7 +19,9 @@ use Rattle.ldp_job.specs.declared.report.Report.{Report}
 use Rattle.ldp_job.specs.declared.share.Share.{Share}
 use Rattle.ldp_job.specs.declared.job.Job.{Job}
 use Rattle.ldp_check.specs.declared.reason.Reason.{Reason}
-use Rattle.ldp_check.specs.declared.reason.Reason.TheVariants.{OtherInput, NotAdmissible, DesignUnusable, OverDiffers, WorstDiffers, ReportDiffers}
+use Rattle.ldp_check.specs.declared.reason.Reason.TheVariants.{OtherInput, NotAdmissible}
+use Rattle.ldp_check.specs.declared.reason.Reason.TheVariants.{DesignUnusable, OverDiffers}
+use Rattle.ldp_check.specs.declared.reason.Reason.TheVariants.{WorstDiffers, ReportDiffers}
 use Rattle.ldp_check.specs.declared.verdict.Verdict.{Verdict}
 use Rattle.ldp_check.specs.declared.verdict.Verdict.TheVariants.{Accepted, Rejected}
 use Rattle.ldp_check.specs.Reports.{report_of, differing_line}
@@ -26,6 +29,7 @@ use Rattle.ldp_check.specs.Inputs.{other_input}
 use Rattle.ldp_check.specs.Printed.{printed, report_line, forest_line, SameTolerance}
 use Rattle.ldp_check.specs.Entries.{first_fault}
 
+-- it names another file
 abbrev pub input_differs : Names → Job → Option Reason
 input_differs names job = option_map OtherInput (other_input names job.names)
 
@@ -35,30 +39,38 @@ has_design f d =
     (nat_lt d.lat f.lat.count && nat_lt d.lon f.lon.count)
     && (nat_lt d.azimuth f.azimuth.count && nat_lt d.scale f.scale.count)
 
+-- a design of a family that exists
 abbrev pub is_design_of : Option Family → Design → Bool
 is_design_of None d = false
 is_design_of (Some f) d = has_design f d
 
+-- an admissible design
 abbrev pub is_admitted : List Family → Design → Bool
 is_admitted families d = is_design_of (family_of families d.family) d
 
+-- its design is not admissible
 abbrev pub not_admitted : Problem → Job → Option Reason
 not_admitted p job = then_some (not (is_admitted p.families job.design)) NotAdmissible
 
+-- its design is undefined at a cell: the first one
 abbrev pub not_usable : Problem → Job → Option Reason
 not_usable p job = option_map DesignUnusable (first_undefined p job.design)
 
+-- a printed number of cells beyond the tolerance that is not the actual one
 abbrev pub other_over : Option Share → ℕ → Option Reason
 other_over None over = None
 other_over (Some share) over =
     then_some (not (share.over == over)) (OverDiffers share.over over)
 
+-- it prints another number of them than its design has
 abbrev pub over_differs : Problem → Job → Option Reason
 over_differs p job = other_over job.share (cost p job.design).over
 
+-- a printed worst distortion that is not the actual one
 abbrev pub other_worst : ℤ → ℤ → Option Reason
 other_worst worst actual = then_some (not (int_eq worst actual)) (WorstDiffers worst actual)
 
+-- it prints another worst distortion than its design has
 abbrev pub worst_differs : Problem → Job → Option Reason
 worst_differs p job = other_worst job.worst (pos (cost p job.design).value)
 
@@ -68,18 +80,22 @@ actual_report p list job =
     report_of p.families list job.design (pos (cost p job.design).value) (worst_cell p job.design)
     (node_count job.forest)
 
+-- the first line of a printed report that is not that of the actual one
 abbrev pub other_report : Option Names → Report → Option Report → Option Reason
 other_report names report actual =
     option_map (λ line. ReportDiffers (report_line names + line))
     (option_and_then (differing_line report) actual)
 
+-- it prints another report than its design has
 abbrev pub report_differs : Problem → CellList → Job → Option Reason
 report_differs p list job = other_report job.names job.report (actual_report p list job)
 
+-- its forest has a fault
 abbrev pub forest_fault : Problem → Job → Option Reason
 forest_fault p job =
     first_fault p (printed job) (forest_line job.names) job.forest start
 
+-- the first that is there
 abbrev pub first_some : List (Option Reason) → Option Reason
 first_some [] = None
 first_some (None ∷ reasons) = first_some reasons
@@ -92,10 +108,12 @@ reason_against p list names job =
     ∷ over_differs p job ∷ worst_differs p job ∷ report_differs p list job ∷ forest_fault p job
     ∷ [])
 
+-- accepted where there is no reason
 abbrev pub verdict_by : Option Reason → Verdict
 verdict_by None = Accepted
 verdict_by (Some reason) = Rejected reason
 
+-- the verdict on a certificate over these cells, where the files have these hashes
 abbrev pub verdict_of : Problem → CellList → Names → Job → Verdict
 verdict_of p list names job = verdict_by (reason_against p list names job)
 

@@ -1,7 +1,8 @@
 ghost use Rattle.std.specs.Prelude.{◌≡◌, ◌<◌, Some, IfSome, length, not, position};
 ghost use Rattle.ldp_design.specs.Designs.{IsAdmitted};
 ghost use Rattle.ldp_job.specs.Values.{IsWorst, IsReport};
-ghost use Rattle.ldp_check.specs.Reports.{report_of, differing_line, same_lines, same_place, same_cells, is_kind};
+ghost use Rattle.ldp_check.specs.Reports.{report_of, differing_line, same_lines, same_place};
+ghost use Rattle.ldp_check.specs.Reports.{same_cells, is_kind};
 
 use crate::number::is_equal;
 use ldp_cells::Cells;

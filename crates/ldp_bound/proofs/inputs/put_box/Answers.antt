@@ -8,5 +8,6 @@ pub returns-clause-value : goal.returns-clause-value
 returns-clause-value c =
     let list = c.args.prepared.now.lists.design in
     ap (value_in range_ops list) (sym c.pair_inputs.ensures)
-    ∙ run_pairs list c.pair_inputs.result c.put_results.result (take (length list.outs) c.put_results.new.inputs)
+    ∙ run_pairs list c.pair_inputs.result c.put_results.result
+    (take (length list.outs) c.put_results.new.inputs)
     c.put_results.ensures.value

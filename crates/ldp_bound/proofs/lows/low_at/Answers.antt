@@ -10,7 +10,9 @@ use Rattle.ldp_bound.proofs.lows.low_at.Goals as goal
 pub returns-in-None-clause-value : goal.returns-in-None-clause-value
 returns-in-None-clause-value c =
     let p = c.args.prepared.now in
-    ap least_size (range_told p (take (length p.lists.design.outs) c.args.inputs.now) c.args.cell None c.in-None.ensures.distortion)
+    ap least_size (range_told p
+    (take (length p.lists.design.outs) c.args.inputs.now) c.args.cell None
+    c.in-None.ensures.distortion)
 
 pub returns-in-Some-clause-value : goal.returns-in-Some-clause-value
 returns-in-Some-clause-value c =
@@ -19,4 +21,5 @@ returns-in-Some-clause-value c =
     c.unsigned_abs.ensures.value
     ∙ ap unsigned_abs (to_z-of_z w128 c.low_abs.result fits ∙ c.low_abs.ensures.value)
     ∙ ap least_size
-    (range_told p (take (length p.lists.design.outs) c.args.inputs.now) c.args.cell (Some c.in-Some.range) c.in-Some.ensures.distortion)
+    (range_told p (take (length p.lists.design.outs) c.args.inputs.now) c.args.cell
+    (Some c.in-Some.range) c.in-Some.ensures.distortion)

@@ -11,8 +11,10 @@ invariant-loop-cell l = record {
   told :
       l.tally
       ≡ tally_of l.kept.tolerance
-      (at_cells (low_from l.prepared (take (length l.prepared.lists.design.outs) l.fn.inputs)) l.cell);
-  kept : take (length l.prepared.lists.design.outs) l.inputs ≡ take (length l.prepared.lists.design.outs) l.fn.inputs;
+      (at_cells (low_from l.prepared (take (length l.prepared.lists.design.outs) l.fn.inputs))
+      l.cell);
+  kept : take (length l.prepared.lists.design.outs) l.inputs
+      ≡ take (length l.prepared.lists.design.outs) l.fn.inputs;
   room : l.bench.room ≡ most_steps;
   over : l.tally.over ≤ l.cell;
   small : l.tally.value ≤ limit;

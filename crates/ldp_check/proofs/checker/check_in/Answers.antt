@@ -12,6 +12,8 @@ returns-in-None-clause-proved g c _ =
     let none : reason_against p c.args.cells.now c.args.names.now c.args.job.now ≡ None =
     sym c.reason_against.ensures.reason ∙ c.in-None.is in
     let grids : AreGrids p.families =
-    rw c.requires.families (none_gives c.reason_against.result _ c.in-None.is c.reason_against.ensures.grids) in
-    accepted_are_proved p c.args.cells.now c.args.names.now c.args.job.now (g.met.B.Bounds.sound c.args.bounds.now) grids
+    rw c.requires.families (none_gives c.reason_against.result _ c.in-None.is
+    c.reason_against.ensures.grids) in
+    accepted_are_proved p c.args.cells.now c.args.names.now c.args.job.now
+    (g.met.B.Bounds.sound c.args.bounds.now) grids
     c.requires.tolerance c.requires.forest (ap verdict_by none)

@@ -13,12 +13,15 @@ loop-cell-preserved g c =
     let low_fits : SFits w128 c.lower-low.result = search rules in
     let p : Problem = g.B.Bounds.problem c.args.bounds.now in
     let low : c.lower-low.result ≡ pos (p.lower c.args.b.now c.loop-cell.cell) =
-    c.lower-low.ensures.value ∙ ap (λ (q : Problem). pos (q.lower c.args.b.now c.loop-cell.cell)) c.loop-cell.invariant.same in
-    let one : c.count_above-over.result ≡ (if int_lt c.args.tolerance c.lower-low.result then 1 else 0) =
+    c.lower-low.ensures.value ∙ ap (λ (q : Problem). pos (q.lower c.args.b.now c.loop-cell.cell))
+    c.loop-cell.invariant.same in
+    let one : c.count_above-over.result ≡ (if int_lt c.args.tolerance c.lower-low.result then 1 else
+    0) =
     simp to_z-of_z at c.count_above-over.ensures.count in
     record {
       counted = rw one
-          (count_more p.tolerance c.args.tolerance c.lower-low.result (p.lower c.args.b.now) c.loop-cell.cell c.loop-cell.over
+          (count_more p.tolerance c.args.tolerance c.lower-low.result (p.lower c.args.b.now)
+          c.loop-cell.cell c.loop-cell.over
           c.requires.tolerance c.loop-cell.invariant.counted low);
       few = omega (arith, c.loop-cell.invariant.few, c.count_above-over.ensures.few);
       cells = c.loop-cell.invariant.cells;

@@ -10,4 +10,5 @@ returns c =
     let fits : SFits w128 c.args.worst = c.ranges.worst in
     let actual = simp to_z-of_z at c.report_of-actual.ensures.value in
     let report = rw c.node_count-nodes.ensures at actual in
-    c.other_report.ensures ∙ ap (other_report c.args.job.now.names c.args.job.now.report) (sym report)
+    c.other_report.ensures ∙ ap (other_report c.args.job.now.names c.args.job.now.report)
+    (sym report)

@@ -6,7 +6,8 @@ use Rattle.ldp_check.proofs.walk.first_fault.Given as goal
 
 abbrev pub invariant-loop-i : goal.invariant-loop-i
 invariant-loop-i g l = record {
-  rest : first_fault (g.B.Bounds.problem l.fn.bounds) l.printed (l.first + l.i) (drop l.i l.forest) (place l.trees l.stack)
+  rest : first_fault (g.B.Bounds.problem l.fn.bounds) l.printed (l.first + l.i) (drop l.i l.forest)
+      (place l.trees l.stack)
       ≡ first_fault (g.B.Bounds.problem l.fn.bounds) l.printed l.first l.forest start;
   at : IsPlace (g.B.Bounds.problem l.fn.bounds).families l.i (place l.trees l.stack);
   room : l.stack.room ≡ l.fn.stack.room;

@@ -1,0 +1,11 @@
+mod Answered
+mod Bounds
+mod Chosen
+mod Counts
+mod Families
+mod Judged
+mod Lists
+mod Moves
+mod Singles
+mod Taken
+mod Writing
