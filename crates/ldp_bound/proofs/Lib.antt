@@ -2,7 +2,7 @@ mod Tallies
 mod Families
 mod Runs
 mod Carriers
-mod Sound
+pub mod Sound
 mod Cells
 mod Kepts
 mod Loops
