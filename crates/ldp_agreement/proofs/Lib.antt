@@ -3,4 +3,4 @@ pub mod Forests
 pub mod Walks
 mod Entries
 mod Sizes
-mod Texts
+pub mod Texts

@@ -1,3 +1,5 @@
 mod Lines
 mod Lengths
 pub mod Upgrades
+mod Found
+mod Designs

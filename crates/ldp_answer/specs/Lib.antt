@@ -6,3 +6,4 @@ pub mod Eval
 pub mod Rejection
 pub mod Check
 pub mod Laws
+pub mod Design

@@ -2,8 +2,10 @@
 use Rattle.std.specs.Prelude.{◌≡◌, Result, Ok, Err}
 use Rattle.ldp_cells.specs.declared.fault.CellsFault.{CellsFault}
 use Rattle.ldp_cells.specs.declared.fault.CellsFault.TheVariants as cells
+use Rattle.ldp_search.specs.declared.fault.SearchFault.{SearchFault}
+use Rattle.ldp_search.specs.declared.fault.SearchFault.TheVariants as searches
 use Rattle.ldp_message.specs.declared.refusal.Refusal.{Refusal}
-use Rattle.ldp_message.specs.declared.refusal.Refusal.TheVariants.{RefusedCells}
+use Rattle.ldp_message.specs.declared.refusal.Refusal.TheVariants.{RefusedCells, BudgetSpent, NoUsableDesign}
 use Rattle.ldp_answer.specs.declared.fault.WorkFault.{WorkFault}
 use Rattle.ldp_answer.specs.declared.fault.WorkFault.TheVariants as faults
 
@@ -17,3 +19,9 @@ Works (Err faults.Memory) told = Unit {0}
 abbrev pub cells_work : CellsFault → WorkFault
 cells_work (cells.TooManyCells count) = faults.Refused (RefusedCells (cells.TooManyCells count))
 cells_work cells.Memory = faults.Memory
+
+-- a search stops where its budget is spent, or where no design is usable
+abbrev pub search_work : SearchFault → WorkFault
+search_work (searches.Budget evaluated) = faults.Refused (BudgetSpent evaluated)
+search_work (searches.NoUsable nodes) = faults.Refused NoUsableDesign
+search_work searches.Memory = faults.Memory

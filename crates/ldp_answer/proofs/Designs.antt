@@ -1,0 +1,179 @@
+-- The certificate of the design that a search has found, and the answer.
+use Rattle.std.proofs.Common.{◌≡◌, ◌≤◌, ◌<◌, ◌^◌, ℕ, ℤ, pos, false, List, length, arith, refl}
+use Rattle.std.proofs.Common.{Option, None, Some, Ok, Err, IfSome, sym, ap, subst, ◌∙◌, inr}
+use Rattle.std.proofs.lemmas.Bool.Decides.{nat_tests}
+use Rattle.std.proofs.lemmas.Int.{ints}
+use Rattle.std.specs.Prelude.{option_map, unsigned_abs, nat_lt, if◌then◌else◌}
+use Rattle.ldp_quantity.specs.Between.{IsBetween}
+use Rattle.ldp_design.specs.declared.family.Family.{Family}
+use Rattle.ldp_design.specs.Families.{AreGrids}
+use Rattle.ldp_cells.specs.Cells.{CellList}
+use Rattle.ldp_problem.specs.Problem.{Problem}
+use Rattle.ldp_problem.specs.Costs.{cost, worst_cell}
+use Rattle.ldp_job.specs.declared.names.Names.{Names}
+use Rattle.ldp_job.specs.declared.job.Job.{Job}
+use Rattle.ldp_job.specs.Values.{IsJob}
+use Rattle.ldp_job.specs.Texts.{job_text}
+use Rattle.ldp_check.specs.Reports.{report_of}
+use Rattle.ldp_check.specs.Verdicts.{verdict_of}
+use Rattle.ldp_check.specs.declared.verdict.Verdict.TheVariants.{Accepted}
+use Rattle.ldp_bound.specs.Plain.{plain_problem}
+use Rattle.ldp_bound.proofs.Sound.{plain_sound}
+use Rattle.ldp_optimum.specs.Best.{Ranked, best}
+use Rattle.ldp_optimum.specs.Forest.{needed}
+use Rattle.ldp_search.specs.declared.found.Found.{Found}
+use Rattle.ldp_search.specs.Search.{IsFound, HasCost}
+use Rattle.ldp_agreement.specs.Certificates.{share_of, IsCertificateOf}
+use Rattle.ldp_agreement.specs.Texts.{IsPrintable, AreValues}
+use Rattle.ldp_agreement.proofs.Certificates.{best_are_accepted}
+use Rattle.ldp_agreement.proofs.Texts.{best_have_texts, best_are_read_back}
+use Rattle.ldp_message.specs.declared.refusal.Refusal.TheVariants.{BudgetSpent}
+use Rattle.ldp_answer.specs.Check.{tolerance_of}
+use Rattle.ldp_answer.specs.Design.{certificate, job_answer, answer_with, best_answer, search_answer}
+use Rattle.ldp_answer.specs.Design.{share_with, IsAcceptedText}
+
+-- what is known of the job that is printed
+pub record IsPrinted (p : Problem) (list : CellList) (names : Names) (tolerance : Option ℤ)
+    (budget : ℕ) (f : Found) (j : Job) : Type 0 where
+  pub found : IsFound p budget f
+  pub cost : HasCost p f
+  pub names_are : j.names ≡ Some names
+  pub design : j.design ≡ f.design
+  pub worst : j.worst ≡ f.worst
+  pub share : j.share ≡ share_with tolerance f.over
+  pub report : report_of p.families list f.design f.worst f.cell f.nodes ≡ Some j.report
+  pub forest_is : j.forest ≡ f.forest
+
+units : Option ℤ → Option ℕ
+units tolerance = option_map unsigned_abs tolerance
+
+ranked : Problem → Found → Ranked
+ranked p f = record { design = f.design; cost = cost p f.design }
+
+pub shares_agree : (tolerance : Option ℤ) (over : ℕ) → IfSome tolerance (IsBetween (pos 0) (pos (10 ^ 15)))
+    → share_with tolerance over ≡ share_of (option_map unsigned_abs tolerance) over
+shares_agree None over h = refl
+shares_agree (Some t) over h =
+    let same : t ≡ pos (unsigned_abs t) = omega (arith, ints, h.0) in
+    ap (λ z. Some record { over = over; tolerance = z }) same
+
+pub is_certificate : (p : Problem) (list : CellList) (names : Names) (tolerance : Option ℤ) (budget : ℕ)
+    (f : Found) (j : Job) → IsPrinted p list names tolerance budget f j
+    → IfSome tolerance (IsBetween (pos 0) (pos (10 ^ 15)))
+    → p.tolerance ≡ option_map unsigned_abs tolerance
+    → IsCertificateOf p list names (record { design = f.design; cost = cost p f.design }) j
+is_certificate p list names tolerance budget f j h within e = record {
+  names = inr h.names_are;
+  design = h.design;
+  worst = h.worst ∙ h.cost.worst;
+  share = h.share ∙ shares_agree tolerance f.over within
+      ∙ ap (λ t. share_of t f.over) (sym e)
+      ∙ ap (share_of p.tolerance) h.cost.over;
+  report = subst (λ worst. report_of p.families list f.design worst (worst_cell p f.design) (needed p)
+      ≡ Some j.report) h.cost.worst
+      (subst (λ cell. report_of p.families list f.design f.worst cell (needed p) ≡ Some j.report)
+      h.cost.cell
+      (subst (λ nodes. report_of p.families list f.design f.worst f.cell nodes ≡ Some j.report)
+      h.found.nodes h.report));
+  forest = h.forest_is ∙ h.found.forest;
+}
+
+-- the job is the certificate
+same_job : (p : Problem) (list : CellList) (names : Names) (x : Ranked) (j : Job)
+    → IsCertificateOf p list names x j → j.names ≡ Some names → certificate p names x j.report ≡ j
+same_job p list names x j c named =
+    rw (sym named, sym c.design, sym c.worst, sym c.share, sym c.forest) refl
+
+enough : (budget n : ℕ) → n ≤ budget → nat_lt budget n ≡ false
+enough budget n h = grind (arith, nat_tests)
+
+pub answer_is : (p : Problem) (list : CellList) (names : Names) (budget : ℕ) (x : Ranked) (j : Job)
+    → best p ≡ Some x → needed p ≤ budget → IsCertificateOf p list names x j → j.names ≡ Some names
+    → search_answer p list names budget ≡ Ok (job_answer j)
+answer_is p list names budget x j is h c named =
+    ap (λ t. if t then Err (BudgetSpent budget) else best_answer p list names (best p))
+    (enough budget (needed p) h)
+    ∙ ap (best_answer p list names) is
+    ∙ ap (answer_with p names x) c.report
+    ∙ ap (λ q. Ok (job_answer q)) (same_job p list names x j c named)
+
+printable : (families : List Family) (list : CellList) (tolerance : Option ℤ) (budget : ℕ)
+    → AreGrids families → 0 < length list.cells → length list.cells ≤ 200_000
+    → IfSome tolerance (IsBetween (pos 0) (pos (10 ^ 15)))
+    → needed (plain_problem families list.cells (option_map unsigned_abs tolerance)) ≤ budget
+    → budget ≤ 1_000_000
+    → IsPrintable (plain_problem families list.cells (option_map unsigned_abs tolerance))
+printable families list tolerance budget g some few within enough most = record {
+  grids = g;
+  some_cell = some;
+  few_cells = few;
+  few_nodes = omega (arith, enough, most);
+  tolerance = small tolerance within;
+}
+  where
+    small : (t : Option ℤ) → IfSome t (IsBetween (pos 0) (pos (10 ^ 15)))
+        → IfSome (option_map unsigned_abs t) (λ n. n ≤ 1_000_000_000_000_000)
+    small None h = tt
+    small (Some z) h = omega (arith, ints, h.0, h.1)
+
+-- the tolerance of the job is that of the words
+tolerance_again : (tolerance : Option ℤ) (over : ℕ)
+    → tolerance_of (share_with tolerance over) ≡ option_map unsigned_abs tolerance
+tolerance_again None over = refl
+tolerance_again (Some t) over = refl
+
+-- what is known where the job is printed
+pub record IsKnown (families : List Family) (list : CellList) (names : Names)
+    (tolerance : Option ℤ) (budget : ℕ) (f : Found) (j : Job) : Type 0 where
+  pub grids : AreGrids families
+  pub some : 0 < length list.cells
+  pub few : length list.cells ≤ 200_000
+  pub within : IfSome tolerance (IsBetween (pos 0) (pos (10 ^ 15)))
+  pub most : budget ≤ 1_000_000
+  pub printed : IsPrinted (plain_problem families list.cells (option_map unsigned_abs tolerance))
+      list names tolerance budget f j
+  pub values : AreValues j
+
+module _ (families : List Family) (list : CellList) (names : Names) (tolerance : Option ℤ)
+    (budget : ℕ) (f : Found) (j : Job) (h : IsKnown families list names tolerance budget f j) where
+  abbrev problem : Problem
+  problem = plain_problem families list.cells (option_map unsigned_abs tolerance)
+
+  abbrev best_of : Ranked
+  best_of = record { design = f.design; cost = cost problem f.design }
+
+  certified : IsCertificateOf problem list names best_of j
+  certified = is_certificate problem list names tolerance budget f j h.printed h.within refl
+
+  prints : IsPrintable problem
+  prints =
+      printable families list tolerance budget h.grids h.some h.few h.within h.printed.found.enough
+      h.most
+
+  pub has_text : IsJob j
+  has_text =
+      best_have_texts problem list names best_of j prints h.values h.printed.found.best certified
+
+  pub answered : search_answer problem list names budget ≡ Ok (job_answer j)
+  answered =
+      answer_is problem list names budget best_of j h.printed.found.best h.printed.found.enough
+      certified h.printed.names_are
+
+  same_tolerance : tolerance_of j.share ≡ option_map unsigned_abs tolerance
+  same_tolerance = ap tolerance_of h.printed.share ∙ tolerance_again tolerance f.over
+
+  pub accepted_text : IsAcceptedText list families names (job_text j)
+  accepted_text =
+      let back = best_are_read_back problem list names best_of j prints h.values
+      h.printed.found.best certified in
+      record {
+        accepted = j;
+        read = back.0;
+        verdict = subst
+            (λ t. verdict_of (plain_problem families list.cells t) list names j ≡ Accepted)
+            (sym same_tolerance)
+            (best_are_accepted problem list names best_of j
+            (plain_sound families list.cells (option_map unsigned_abs tolerance) h.grids h.some)
+            h.grids h.printed.found.best certified);
+        short = back.1;
+      }

@@ -1,0 +1,75 @@
+-- What `design` answers over cells and design grids. Own choice of this project.
+use Rattle.std.specs.Prelude.{◌≡◌, ◌≤◌, ℕ, ℤ, pos, nat_lt, List, length, false, Option, Some, None}
+use Rattle.std.specs.Prelude.{option_map, Result, Ok, Err}
+use Rattle.std.specs.Prelude.{if◌then◌else◌}
+use Rattle.ldp_design.specs.declared.family.Family.{Family}
+use Rattle.ldp_cells.specs.Cells.{CellList}
+use Rattle.ldp_problem.specs.Problem.{Problem}
+use Rattle.ldp_problem.specs.Costs.{worst_cell}
+use Rattle.ldp_bound.specs.Plain.{plain_problem}
+use Rattle.ldp_optimum.specs.Best.{Ranked, best}
+use Rattle.ldp_optimum.specs.Forest.{forest, needed}
+use Rattle.ldp_job.specs.declared.names.Names.{Names}
+use Rattle.ldp_job.specs.declared.report.Report.{Report}
+use Rattle.ldp_job.specs.declared.share.Share.{Share}
+use Rattle.ldp_job.specs.declared.job.Job.{Job}
+use Rattle.ldp_job.specs.Texts.{job_text}
+use Rattle.ldp_job.specs.Reading.{job}
+use Rattle.ldp_check.specs.Reports.{report_of}
+use Rattle.ldp_check.specs.declared.verdict.Verdict.TheVariants.{Accepted}
+use Rattle.ldp_agreement.specs.Certificates.{share_of}
+use Rattle.ldp_message.specs.declared.refusal.Refusal.{Refusal}
+use Rattle.ldp_message.specs.declared.refusal.Refusal.TheVariants as refusals
+use Rattle.ldp_answer.specs.Check.{verdict_over}
+use Rattle.ldp_answer.specs.declared.answer.Answer.{Answer}
+
+-- the certificate of a design with its cost and its report: the hashes of the three files, and the
+-- canonical forest
+abbrev pub certificate : Problem → Names → Ranked → Report → Job
+certificate p names x report = record {
+  names = Some names;
+  design = x.design;
+  worst = pos x.cost.value;
+  share = share_of p.tolerance x.cost.over;
+  report = report;
+  forest = forest p;
+}
+
+abbrev pub job_answer : Job → Answer
+job_answer j = record { rejected = false; text = job_text j }
+
+-- the answer with a report; that of the best design is there
+abbrev pub answer_with : Problem → Names → Ranked → Option Report → Result Answer Refusal
+answer_with p names x (Some report) = Ok (job_answer (certificate p names x report))
+answer_with p names x None = Err refusals.NoUsableDesign
+
+-- the answer for the best design, if there is one: its report is that of the first cell of its
+-- worst distortion, with the number of nodes of the forest
+abbrev pub best_answer : Problem → CellList → Names → Option Ranked → Result Answer Refusal
+best_answer p list names (Some x) =
+    answer_with p names x
+    (report_of p.families list x.design (pos x.cost.value) (worst_cell p x.design) (needed p))
+best_answer p list names None = Err refusals.NoUsableDesign
+
+-- the answer of a search with this budget
+abbrev pub search_answer : Problem → CellList → Names → ℕ → Result Answer Refusal
+search_answer p list names budget =
+    if nat_lt budget (needed p) then Err (refusals.BudgetSpent budget)
+    else best_answer p list names (best p)
+
+abbrev pub design_over : CellList → List Family → Names → ℕ → Option ℕ → Result Answer Refusal
+design_over list families names budget tolerance =
+    search_answer (plain_problem families list.cells tolerance) list names budget
+
+-- where cells beyond a tolerance are counted, their number and the tolerance
+abbrev pub share_with : Option ℤ → ℕ → Option Share
+share_with tolerance over = option_map (λ t. record { over = over; tolerance = t }) tolerance
+
+-- the text is that of a job that the checker accepts over the same cells, grids and hashes, and it
+-- is short enough for a file
+pub record IsAcceptedText (list : CellList) (families : List Family) (names : Names)
+    (text : List ℕ) : Type 0 where
+  pub accepted : Job
+  pub read : job text ≡ Ok accepted
+  pub verdict : verdict_over list families names accepted ≡ Accepted
+  pub short : length text ≤ 128_000_000

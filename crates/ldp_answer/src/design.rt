@@ -1,0 +1,168 @@
+ghost use Rattle.std.specs.Prelude.{◌≡◌, ◌<◌, ◌≤◌, ◌^◌, pos, length, IfOk, IfErr, IfSome, Some, Ok, Err};
+ghost use Rattle.std.specs.Prelude.{option_map, unsigned_abs};
+ghost use Rattle.ldp_quantity.specs.Between.{IsBetween};
+ghost use Rattle.ldp_design.specs.Designs.{IsAdmitted};
+ghost use Rattle.ldp_problem.specs.Problem.{Problem};
+ghost use Rattle.ldp_problem.specs.Costs.{IsUsable, cost};
+ghost use Rattle.ldp_job.specs.Values.{AreNames, IsWorst, IsJob};
+ghost use Rattle.ldp_job.specs.Texts.{job_text};
+ghost use Rattle.ldp_job.specs.declared.names.Names.{Names as NamesValue};
+ghost use Rattle.ldp_check.specs.Reports.{report_of};
+ghost use Rattle.ldp_bound.specs.Plain.{plain_problem};
+ghost use Rattle.ldp_search.specs.Search.{IsFound, HasCost};
+ghost use Rattle.ldp_agreement.specs.Texts.{AreValues};
+ghost use Rattle.ldp_answer.specs.Works.{Works};
+ghost use Rattle.ldp_answer.specs.Design.{search_answer, design_over, share_with};
+ghost use Rattle.ldp_answer.specs.Design.{job_answer, IsAcceptedText};
+
+use crate::answer::Answer;
+use crate::fault::WorkFault;
+use ldp_bound::{Bounds, Cost, Plain};
+use ldp_cells::Cells;
+use ldp_check::report_of;
+use ldp_design::Grids;
+use ldp_job::{Job, Names, Share, write_job};
+use ldp_search::{Found, search};
+use std::alloc::Global;
+
+/// What `design` prints: the certificate of the best design, with the hashes of the files. At most
+/// so many nodes are looked at; where there is a tolerance, in units of 10^-15, the cells beyond it
+/// count first.
+pub fn design_over(
+    alloc: Global,
+    cells: &Cells,
+    grids: &Grids,
+    names: &Names,
+    budget: u32,
+    tolerance: Option<i128>,
+) -> Result<Answer, WorkFault>
+    requires some { 0 < length cells.now.cells }
+    requires names { AreNames names.now }
+    requires few { budget ≤ 1_000_000 }
+    requires tolerance { IfSome tolerance (IsBetween (pos 0) (pos (10 ^ 15))) }
+    ensures answer { Works result (design_over cells.now grids.now names.now budget
+        (option_map unsigned_abs tolerance)) }
+    ensures accepted { IfOk result (λ answer.
+        IsAcceptedText cells.now grids.now names.now answer.text) }
+{
+    let found = found_over(alloc, cells, grids, budget, tolerance)?;
+    let job = certificate(cells, grids, names, budget, tolerance, found);
+    let text = write_job(alloc, &job)?;
+    Ok(Answer {
+        rejected: false,
+        text,
+    })
+}
+
+/// The best design over the ranges of the projections.
+fn found_over(
+    alloc: Global,
+    cells: &Cells,
+    grids: &Grids,
+    budget: u32,
+    tolerance: Option<i128>,
+) -> Result<Found, WorkFault>
+    requires some { 0 < length cells.now.cells }
+    requires few { budget ≤ 1_000_000 }
+    requires tolerance { IfSome tolerance (IsBetween (pos 0) (pos (10 ^ 15))) }
+    ensures found { IfOk result (IsFound
+        (plain_problem grids.now cells.now.cells (option_map unsigned_abs tolerance)) budget) }
+    ensures admitted { IfOk result (λ f. IsAdmitted grids.now f.design) }
+    ensures cost { IfOk result (HasCost
+        (plain_problem grids.now cells.now.cells (option_map unsigned_abs tolerance))) }
+    ensures number { IfOk result (λ f. IsWorst f.worst) }
+    ensures refused { IfErr result (λ fault. (names : NamesValue) → Works (Err fault) (search_answer
+        (plain_problem grids.now cells.now.cells (option_map unsigned_abs tolerance))
+        cells.now names budget)) }
+{
+    let mut bounds = Plain::new(alloc, grids, cells, tolerance)?;
+    let found = search(alloc, &mut bounds, grids, budget)?;
+    let worst = worst_of(&mut bounds, &found);
+    Ok(Found { worst, ..found })
+}
+
+/// The worst of the design that was found, as the bounder tells it: a number of at most 10^19 units.
+fn worst_of(bounds: &mut Plain, found: &Found) -> i128
+    requires admitted { IsAdmitted (⟦<Plain as Bounds>⟧.problem bounds.old).families found.now.design }
+    requires usable { IsUsable (⟦<Plain as Bounds>⟧.problem bounds.old) found.now.design }
+    requires cost { HasCost (⟦<Plain as Bounds>⟧.problem bounds.old) found.now }
+    ensures same { result ≡ found.now.worst }
+    ensures number { IsWorst result }
+{
+    match bounds.cost(&found.design) {
+        Cost::Is { value, .. } => value,
+        Cost::Unusable { .. } => unreachable!(),
+    }
+}
+
+/// The certificate of the best design.
+fn certificate(
+    cells: &Cells,
+    grids: &Grids,
+    names: &Names,
+    budget: u32,
+    tolerance: Option<i128>,
+    found: Found,
+) -> Job
+    requires some { 0 < length cells.now.cells }
+    requires names { AreNames names.now }
+    requires few { budget ≤ 1_000_000 }
+    requires tolerance { IfSome tolerance (IsBetween (pos 0) (pos (10 ^ 15))) }
+    requires found { IsFound
+        (plain_problem grids.now cells.now.cells (option_map unsigned_abs tolerance)) budget found }
+    requires admitted { IsAdmitted grids.now found.design }
+    requires cost { HasCost
+        (plain_problem grids.now cells.now.cells (option_map unsigned_abs tolerance)) found }
+    requires number { IsWorst found.worst }
+    ensures valid { IsJob result }
+    ensures answer { design_over cells.now grids.now names.now budget
+        (option_map unsigned_abs tolerance) ≡ Ok (job_answer result) }
+    ensures accepted { IsAcceptedText cells.now grids.now names.now (job_text result) }
+{
+    // These calls tell what the grids and the cells keep.
+    let _families = grids.families();
+    let _count = cells.len();
+    job_of(cells, grids, names, tolerance, found)
+}
+
+/// The job of the design that was found.
+fn job_of(cells: &Cells, grids: &Grids, names: &Names, tolerance: Option<i128>, found: Found) -> Job
+    requires admitted { IsAdmitted grids.now found.design }
+    requires cell { found.cell < length cells.now.cells }
+    requires names { AreNames names.now }
+    requires worst { IsWorst found.worst }
+    ensures names { result.names ≡ Some names.now }
+    ensures design { result.design ≡ found.design }
+    ensures worst { result.worst ≡ found.worst }
+    ensures share { result.share ≡ share_with tolerance found.over }
+    ensures report { report_of grids.now cells.now found.design found.worst found.cell found.nodes
+        ≡ Some result.report }
+    ensures forest { result.forest ≡ found.forest }
+    ensures values { AreValues result }
+{
+    let report = report_of(
+        grids,
+        cells,
+        &found.design,
+        found.worst,
+        found.cell,
+        found.nodes,
+    );
+    Job {
+        names: Some(*names),
+        design: found.design,
+        worst: found.worst,
+        share: share_with(tolerance, found.over),
+        report,
+        forest: found.forest,
+    }
+}
+
+fn share_with(tolerance: Option<i128>, over: u32) -> Option<Share>
+    ensures { result ≡ share_with tolerance over }
+{
+    match tolerance {
+        Some(tolerance) => Some(Share { over, tolerance }),
+        None => None,
+    }
+}
