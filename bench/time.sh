@@ -1,7 +1,8 @@
 #!/usr/bin/env bash
-# Nanoseconds of each operation and of each run of a joint list: the least processor time of nine
-# programs that repeat it, less that of the same program that repeats it not at all. Give how often
-# the operations are repeated, or take 20,000,000; a list is run a twentieth as often.
+# Nanoseconds of each operation, of each run of a joint list, and of the bound of a box over 672
+# cells: the least processor time of nine programs that repeat it, less that of the same program
+# that repeats it not at all. Give how often the operations are repeated, or take 20,000,000; a list
+# is run a twentieth as often, and a box bounded a ten-thousandth as often.
 set -eu
 repeats=${1:-20000000}
 cd "$(dirname "$0")/../crates/ldp_timing"
@@ -29,5 +30,8 @@ done
 for kind in tm lambert hotine; do
   each "$kind" $((repeats / 20))
   each "$kind" $((repeats / 20)) ranges
+done
+for kind in tm-boxes lambert-boxes; do
+  each "$kind" $((repeats / 10000))
 done
 uptime

@@ -1,24 +1,28 @@
-//! Repeats one operation, or one run of a projection's joint list, for `bench/` to time. The first
-//! word says which, the second how often, and a third, `ranges`, has a list run in ranges; with no
-//! word each is repeated a little. It prints a sum or a count, and no time.
+//! Repeats one operation, one run of a projection's joint list, or the bound of a box over 672
+//! cells, for `bench/` to time. The first word says which, the second how often, and a third,
+//! `ranges`, has a list run in ranges; with no word each is repeated a little. It prints a sum or a
+//! count, and no time.
 #![tactic(auto)]
 
 ghost use Rattle.std.specs.Prelude.{IfOk, IfSome};
 ghost use Rattle.ldp_timing.specs.Fitting.{Fitting};
 
+mod boxes;
 mod operations;
 mod runs;
 
+use crate::boxes::bounds;
 use crate::operations::{
     chained_products, chained_quotients, chained_roots, products, quotients, roots,
 };
 use crate::runs::{in_numbers, in_ranges};
+use ldp_design::Kind;
 use ldp_series::{Lists, Memory};
 use std::alloc::Global;
 use std::{env, io};
 
 /// What can be repeated.
-const KINDS: [&str; 9] = [
+const KINDS: [&str; 11] = [
     "mul",
     "mul-chain",
     "div",
@@ -28,6 +32,8 @@ const KINDS: [&str; 9] = [
     "tm",
     "lambert",
     "hotine",
+    "tm-boxes",
+    "lambert-boxes",
 ];
 
 /// How often, where the words do not say.
@@ -58,14 +64,14 @@ fn lists_of(alloc: Global, kind: &[u8]) -> Result<Option<Lists>, Memory>
     }
 }
 
-/// The sum of an operation's results, or how many runs of a joint list had a value; 0 for another
-/// kind.
+/// The sum of an operation's results, how many runs of a joint list had a value, or the sum of the
+/// bounds of boxes; 0 for another kind.
 fn repeated(alloc: Global, kind: &[u8], runs: u32, ranges: bool) -> Result<i128, Memory> {
     if let Some(sum) = sum_of(kind, runs) {
         return Ok(sum);
     }
     let Some(lists) = lists_of(alloc, kind)? else {
-        return Ok(0);
+        return bounds_of(alloc, kind, runs);
     };
     let defined = if ranges {
         in_ranges(alloc, &lists, runs)?
@@ -73,6 +79,15 @@ fn repeated(alloc: Global, kind: &[u8], runs: u32, ranges: bool) -> Result<i128,
         in_numbers(alloc, &lists, runs)?
     };
     Ok(i128::from(defined))
+}
+
+/// The sum of the bounds of boxes of a family, where the kind is one of boxes.
+fn bounds_of(alloc: Global, kind: &[u8], runs: u32) -> Result<i128, Memory> {
+    match kind {
+        b"tm-boxes" => bounds(alloc, Kind::Tm, runs),
+        b"lambert-boxes" => bounds(alloc, Kind::Lambert, runs),
+        _ => Ok(0),
+    }
 }
 
 fn main(rt: HostRuntime) -> io::Result<()> {
