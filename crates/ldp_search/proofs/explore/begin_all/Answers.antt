@@ -1,8 +1,7 @@
 use Rattle.std.proofs.Common.{[], ◌+◌, ◌≤◌, refl, ap, subst, sym, ◌∙◌, arith}
 use Rattle.std.proofs.lemmas.Result.{err_from_is_err_and}
 use Rattle.ldp_design.specs.Families.{AreGrids}
-use Rattle.ldp_search.specs.Explored.{IsExplored}
-use Rattle.ldp_search.specs.Search.{IsStop}
+use Rattle.ldp_search.specs.Explored.{IsExplored, IsStop}
 use Rattle.ldp_search.proofs.Moves.{explored_none, whole_waiting}
 use Rattle.ldp_search.proofs.explore.begin_all.Goals as goal
 

@@ -1,7 +1,6 @@
 use Rattle.std.proofs.Common.{[], ◌∷◌, subst}
 use Rattle.std.proofs.lemmas.Result.{err_from_is_err_and}
-use Rattle.ldp_search.specs.Explored.{IsWaiting}
-use Rattle.ldp_search.specs.Search.{IsStop}
+use Rattle.ldp_search.specs.Explored.{IsWaiting, IsStop}
 use Rattle.ldp_search.proofs.Chosen.{parts_waiting, second_waiting}
 use Rattle.ldp_search.proofs.explore.split_box.Goals as goal
 
