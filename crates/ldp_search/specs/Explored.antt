@@ -60,7 +60,8 @@ pub data IsAccounted (p : Problem) (begun : ℕ) (pending : List DesignBox) (s :
 -- So many families are begun, and these boxes are to be evaluated next. Of the nodes of the
 -- families that are begun, those of boxes to come are not yet evaluated, and of each box that may
 -- be split one is.
-pub record IsExplored (p : Problem) (begun : ℕ) (pending : List DesignBox) (s : State) : Type 0 where
+pub record IsExplored (p : Problem) (begun : ℕ) (pending : List DesignBox)
+    (s : State) : Type 0 where
   pub sound : IsSound p
   pub grids : AreGrids p.families
   pub lies : AllLieIn p.families pending
