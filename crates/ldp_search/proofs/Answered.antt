@@ -21,13 +21,15 @@ use Rattle.ldp_search.specs.Explored.{IsDone}
 use Rattle.ldp_search.specs.Search.{IsFound, HasCost, HasNoUsable}
 use Rattle.ldp_search.proofs.Judged.{cost_is}
 
-pub none_usable : (p : Problem) (families : List Family) (t : State) (d : Design) → IsDone p t → t.best ≡ None
+pub none_usable : (p : Problem) (families : List Family) (t : State) (d : Design) → IsDone p t
+    → t.best ≡ None
     → p.families ≡ families → IsAdmitted families d → IsUsable p d → ⊥
 none_usable p families t d done e same a u =
     no_best_none_usable p d (done.best ∙ ap (option_map ranked_of) e)
     (subst (λ fs. IsAdmitted fs d) (sym same) a) u
 
-pub no_usable : (p : Problem) (budget : ℕ) (t : State) → IsDone p t → t.best ≡ None → t.evaluated ≤ budget
+pub no_usable : (p : Problem) (budget : ℕ) (t : State) → IsDone p t → t.best ≡ None
+    → t.evaluated ≤ budget
     → HasNoUsable p budget t.evaluated
 no_usable p budget t done e within = record {
   none = done.best ∙ ap (option_map ranked_of) e;
@@ -55,7 +57,8 @@ module _ (p : Problem) (t : State) (c : Candidate) (done : IsDone p t) (e : t.be
         nodes = t.evaluated;
       }
   found_is budget written within all = record {
-    best = best_is ∙ ap (λ k. Some record { design = c.design; cost = k }) (cost_is p c (done.candidate c e));
+    best = best_is ∙ ap (λ k. Some record { design = c.design; cost = k })
+        (cost_is p c (done.candidate c e));
     forest = all;
     nodes = done.evaluated;
     enough = omega (arith, done.evaluated);

@@ -44,7 +44,8 @@ least_of_heap b (other ∷ others) h =
     (least_of_heap b others h.1)
 
 pair_total : IsTotalOrder pair_cmp
-pair_total = then_total (on_total (λ a. a.over) nat_cmp_total) (on_total (λ a. a.value) nat_cmp_total)
+pair_total = then_total (on_total (λ a. a.over) nat_cmp_total)
+    (on_total (λ a. a.value) nat_cmp_total)
 
 smaller_weak : IsStrictWeakOrder is_smaller
 smaller_weak = ranks_by pair_total (λ a. a)

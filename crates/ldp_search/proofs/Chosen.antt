@@ -43,7 +43,8 @@ data IsLeft (p : Problem) (s : State) (Known : BoundedBox → Type 0) (d : Desig
   within : (o : BoundedBox) → IsSplittable p o → Known o → IsIn d o.region → IsLeft p s Known d
   worse : IsBeaten p s.best d → IsLeft p s Known d
 
-number_within : (families : List Family) (number : ℕ) (f : Family) → family_of families number ≡ Some f
+number_within : (families : List Family) (number : ℕ) (f : Family)
+    → family_of families number ≡ Some f
     → number ≤ length families
 number_within families zero f e = omega arith
 number_within families (suc index) f e = omega (arith, slice_get_within families index f e)
@@ -55,7 +56,8 @@ one_of p Known [] d all known some = absurd (Any-nil (Holds d) some)
 one_of p Known (o ∷ frontier) d all known some =
     elim (Any-cases (Holds d) o frontier some) [
       | inl h ↦ (o, All-head (IsSplittable p) o frontier all, All-head Known o frontier known, h)
-      | inr h ↦ one_of p Known frontier d (All-tail (IsSplittable p) o frontier all) (All-tail Known o frontier known) h
+      | inr h ↦ one_of p Known frontier d (All-tail (IsSplittable p) o frontier all)
+          (All-tail Known o frontier known) h
     ]
 
 left_of : (p : Problem) (s : State) (Known : BoundedBox → Type 0) (d : Design) → IsWaiting p s
@@ -64,7 +66,8 @@ left_of p s Known d x known a u = by_account (x.accounted d a u)
   where
     by_account : IsAccounted p (length p.families) [] s d → IsLeft p s Known d
     by_account (later h) =
-        let most : d.family ≤ length p.families = number_within p.families d.family a.family a.found in
+        let most : d.family ≤ length p.families =
+        number_within p.families d.family a.family a.found in
         absurd (omega arith)
     by_account (waiting h) = absurd (Any-nil (IsIn d) h)
     by_account (held h) =
@@ -78,7 +81,8 @@ not_above : (p : Problem) (s : State) (o : BoundedBox) → IsWaiting p s
 not_above p s o x smallest below = by_best (best p) refl
   where
     at_least : (y : Ranked) → IsRanked p y → AtMost o.low y.cost
-    at_least y r = by_left (left_of p s (λ other. AtMost o.low other.low) y.design x smallest r.admitted is.usable)
+    at_least y r = by_left (left_of p s (λ other. AtMost o.low other.low) y.design x smallest
+        r.admitted is.usable)
       where
         is : IsRankOf p y.design y
         is = ranked_usable p y.design y r.ranked
@@ -92,12 +96,14 @@ not_above p s o x smallest below = by_best (best p) refl
 
         by_left : IsLeft p s (λ other. AtMost o.low other.low) y.design → AtMost o.low y.cost
         by_left (within other split at_most h) =
-            subst (AtMost o.low) (sym is.cost) (at_most_trans o.low other.low (cost p y.design) at_most
+            subst (AtMost o.low) (sym is.cost)
+            (at_most_trans o.low other.low (cost p y.design) at_most
             (subst (λ low. AtMost low (cost p y.design)) (sym split.low)
             (bound_below p other.region y.design x.sound split.lies h is.usable)))
         by_left (worse k) = subst (AtMost o.low) (sym is.cost) (by_beaten s.best below k)
 
-    by_best : (b : Option Ranked) → best p ≡ b → is_above o.low (option_map (λ y. y.cost) (best p)) ≡ false
+    by_best : (b : Option Ranked) → best p ≡ b → is_above o.low (option_map (λ y. y.cost) (best p))
+        ≡ false
     by_best None e = rw e refl
     by_best (Some y) e = rw e (at_least y (best_ranked p y e))
 
@@ -118,7 +124,13 @@ parted families b low high e = by_cut (cut_for families b) refl e
     by_cut None h k = absurd cc
     by_cut (Some (axis, at)) h k =
         let same : parts_at axis at b ≡ (low, high) = cc in
-        record { axis = axis; at = at; cut = h; low_is = ap (λ x. x.0) (sym same); high_is = ap (λ x. x.1) (sym same) }
+        record {
+          axis = axis;
+          at = at;
+          cut = h;
+          low_is = ap (λ x. x.0) (sym same);
+          high_is = ap (λ x. x.1) (sym same);
+        }
 
 -- the parts of the box that is chosen are to be evaluated
 explored_split : (p : Problem) (o : BoundedBox) (low high : DesignBox) (s t : State) → IsWaiting p s
@@ -150,10 +162,12 @@ explored_split p o low high s t x moves same counted parts nodes = record {
     moved d (later h) = later h
     moved d (waiting h) = absurd (Any-nil (IsIn d) h)
     moved d (held h) =
-        elim (Any-cases (Holds d) o t.frontier (Any-permutation (Holds d) s.frontier (o ∷ t.frontier) moves h)) [
+        elim (Any-cases (Holds d) o t.frontier
+        (Any-permutation (Holds d) s.frontier (o ∷ t.frontier) moves h)) [
           | inl inside ↦ elim (parts.covered d inside) [
             | inl first ↦ waiting (Any-head (IsIn d) low (high ∷ []) first)
-            | inr second ↦ waiting (Any-tail (IsIn d) low (high ∷ []) (Any-head (IsIn d) high [] second))
+            | inr second ↦ waiting
+                (Any-tail (IsIn d) low (high ∷ []) (Any-head (IsIn d) high [] second))
           ]
           | inr other ↦ held other
         ]
@@ -181,7 +195,8 @@ chosen_ready p o s t x moves smallest same counted below =
     }
   where
     by_parts : (first second : DesignBox) (axis : AxisName) (at : ℕ) → LiesIn p.families o.region
-        → is_above (bound p o.region) (least p) ≡ false → cut_for p.families o.region ≡ Some (axis, at)
+        → is_above (bound p o.region) (least p) ≡ false
+        → cut_for p.families o.region ≡ Some (axis, at)
         → first ≡ (parts_at axis at o.region).0 → second ≡ (parts_at axis at o.region).1
         → IsExplored p (length p.families) (first ∷ second ∷ []) t
     by_parts first second axis at lies low cut first_is second_is =
@@ -193,12 +208,14 @@ chosen_ready p o s t x moves smallest same counted below =
 -- each box that may still be split is above the cost of the best so far
 nodes_above : (p : Problem) (so_far : Option Candidate) (frontier : List BoundedBox)
     → ((c : Candidate) → so_far ≡ Some c → IsCandidate p c) → All (IsSplittable p) frontier
-    → All (λ o. is_above o.low (cost_held so_far) ≡ true) frontier → nodes_on p frontier ≡ length frontier
+    → All (λ o. is_above o.low (cost_held so_far) ≡ true) frontier
+    → nodes_on p frontier ≡ length frontier
 nodes_above p so_far [] is all above = refl
 nodes_above p so_far (o ∷ frontier) is all above =
     let split = All-head (IsSplittable p) o frontier all in
     let one : nodes_of p o.region ≡ 1 =
-    node_of o split (held_above p so_far o.low is (All-head (λ y. is_above y.low (cost_held so_far) ≡ true) o frontier above)) in
+    node_of o split (held_above p so_far o.low is
+    (All-head (λ y. is_above y.low (cost_held so_far) ≡ true) o frontier above)) in
     omega (
       arith,
       one,
@@ -207,14 +224,17 @@ nodes_above p so_far (o ∷ frontier) is all above =
           (All-tail (λ y. is_above y.low (cost_held so_far) ≡ true) o frontier above),
     )
   where
-    node_of : (y : BoundedBox) → IsSplittable p y → is_above y.low (least p) ≡ true → nodes_of p y.region ≡ 1
+    node_of : (y : BoundedBox) → IsSplittable p y → is_above y.low (least p) ≡ true
+        → nodes_of p y.region ≡ 1
     node_of y split h =
         let low : is_above (bound p y.region) (least p) ≡ true =
         subst (λ l. is_above l (least p) ≡ true) split.low h in
-        nodes_closed p y.region (several_usable p y.region split.lies split.several) (rw low (or_true (is_single y.region)))
+        nodes_closed p y.region (several_usable p y.region split.lies split.several)
+        (rw low (or_true (is_single y.region)))
 
 best_done : (p : Problem) (s : State) → IsWaiting p s
-    → All (λ o. is_above o.low (cost_held s.best) ≡ true) s.frontier → best p ≡ option_map ranked_of s.best
+    → All (λ o. is_above o.low (cost_held s.best) ≡ true) s.frontier
+    → best p ≡ option_map ranked_of s.best
 best_done p s x above = by_held s.best refl
   where
     left : (d : Design) → IsAdmitted p.families d → IsUsable p d
@@ -233,13 +253,16 @@ best_done p s x above = by_held s.best refl
     unbeaten c y e is (within o split h inside) =
         let above_it : is_smaller (cost_shown c) o.low ≡ true = rw e at h in
         let at_most : AtMost o.low y.cost =
-        subst (AtMost o.low) (sym is.cost) (subst (λ low. AtMost low (cost p y.design)) (sym split.low)
+        subst (AtMost o.low) (sym is.cost)
+        (subst (λ low. AtMost low (cost p y.design)) (sym split.low)
         (bound_below p o.region y.design x.sound split.lies inside is.usable)) in
         below_better (ranked_of c) y (below_at_most (cost_shown c) o.low y.cost above_it at_most)
     unbeaten c y e is (worse h) =
-        let beaten_by : is_better (record { design = y.design; cost = cost p y.design }) (ranked_of c) ≡ false =
+        let beaten_by : is_better (record { design = y.design; cost = cost p y.design })
+        (ranked_of c) ≡ false =
         subst (λ best. IsBeaten p best y.design) e h in
-        subst (λ k. is_better (record { design = y.design; cost = k }) (ranked_of c) ≡ false) (sym is.cost) beaten_by
+        subst (λ k. is_better (record { design = y.design; cost = k }) (ranked_of c) ≡ false)
+        (sym is.cost) beaten_by
 
     by_held : (held : Option Candidate) → s.best ≡ held → best p ≡ option_map ranked_of s.best
     by_held None e = rw e (none_usable_no_best p (λ d a u. none_left d e u (left d a u)))
@@ -273,25 +296,29 @@ none_chosen p s t x empty same counted =
 -- the box of smallest bound is above the cost of the best so far
 pub above_chosen : (p : Problem) (o : BoundedBox) (s t : State) → IsWaiting p s
     → IsPermutation s.frontier (o ∷ t.frontier) → All (λ other. AtMost o.low other.low) t.frontier
-    → t.best ≡ s.best → t.evaluated ≡ s.evaluated → is_above o.low (cost_held s.best) ≡ true → IsDone p t
+    → t.best ≡ s.best → t.evaluated ≡ s.evaluated → is_above o.low (cost_held s.best) ≡ true
+    → IsDone p t
 above_chosen p o s t x moves smallest same counted above =
     done p s t x (All-permutation Above (o ∷ t.frontier) s.frontier
     (IsPermutation-sym s.frontier (o ∷ t.frontier) moves)
     (All-cons Above o t.frontier above
-    (All-weaker (λ other. AtMost o.low other.low) Above (λ other h. more s.best other above h) t.frontier smallest)))
+    (All-weaker (λ other. AtMost o.low other.low) Above (λ other h. more s.best other above h)
+    t.frontier smallest)))
     same counted
   where
     Above : BoundedBox → Type 0
     Above other = is_above other.low (cost_held s.best) ≡ true
 
-    more : (so_far : Option Candidate) (other : BoundedBox) → is_above o.low (cost_held so_far) ≡ true
+    more : (so_far : Option Candidate) (other : BoundedBox)
+        → is_above o.low (cost_held so_far) ≡ true
         → AtMost o.low other.low → is_above other.low (cost_held so_far) ≡ true
     more None other h k = absurd cc
     more (Some c) other h k = below_at_most (cost_shown c) o.low other.low h k
 
 -- the parts of a box that is ready are to be evaluated
 pub parts_waiting : (p : Problem) (families : List Family) (b : DesignBox) (s : State)
-    (split : Option (DesignBox × DesignBox)) (low high : DesignBox) → IsReady p b s → p.families ≡ families
+    (split : Option (DesignBox × DesignBox)) (low high : DesignBox) → IsReady p b s
+    → p.families ≡ families
     → split ≡ split_of families b → split ≡ Some (low, high)
     → IsExplored p (length p.families) (low ∷ high ∷ []) s
 parts_waiting p families b s split low high ready same value some =

@@ -19,7 +19,8 @@ use Rattle.ldp_search.specs.declared.bounded_box.BoundedBox.{BoundedBox}
 use Rattle.ldp_search.specs.declared.state.State.{State}
 use Rattle.ldp_search.specs.Explored.{nodes_of, nodes_on, IsSplittable, IsExplored}
 
-pub nodes_unusable : (p : Problem) (b : DesignBox) (cell : ℕ) → unusable_at p b ≡ Some cell → nodes_of p b ≡ 1
+pub nodes_unusable : (p : Problem) (b : DesignBox) (cell : ℕ) → unusable_at p b ≡ Some cell
+    → nodes_of p b ≡ 1
 nodes_unusable p b cell e = ap node_count (tree_unusable p (least p) b cell e)
 
 pub nodes_closed : (p : Problem) (b : DesignBox) → unusable_at p b ≡ None
@@ -27,13 +28,16 @@ pub nodes_closed : (p : Problem) (b : DesignBox) → unusable_at p b ≡ None
 nodes_closed p b e t = ap node_count (tree_closed p (least p) b e t)
 
 pub nodes_split : (p : Problem) (b : DesignBox) (axis : AxisName) (at : ℕ) → AreGrids p.families
-    → LiesIn p.families b → is_above (bound p b) (least p) ≡ false → cut_for p.families b ≡ Some (axis, at)
+    → LiesIn p.families b → is_above (bound p b) (least p) ≡ false
+    → cut_for p.families b ≡ Some (axis, at)
     → nodes_of p b ≡ 1 + nodes_of p (parts_at axis at b).0 + nodes_of p (parts_at axis at b).1
 nodes_split p b axis at g h a c =
     ap node_count (tree_split p (least p) b axis at g h a c)
-    ∙ split_counts axis at (tree_of p (least p) (parts_at axis at b).0) (tree_of p (least p) (parts_at axis at b).1)
+    ∙ split_counts axis at (tree_of p (least p) (parts_at axis at b).0)
+    (tree_of p (least p) (parts_at axis at b).1)
 
-pub some_nodes : (p : Problem) (b : DesignBox) → AreGrids p.families → LiesIn p.families b → 1 ≤ nodes_of p b
+pub some_nodes : (p : Problem) (b : DesignBox) → AreGrids p.families → LiesIn p.families b
+    → 1 ≤ nodes_of p b
 some_nodes p b g h = (trees_have_nodes p (least p) b g h).0
 
 -- each box that may be split has a node
@@ -51,6 +55,8 @@ frontier_nodes p (o ∷ frontier) g all =
 pub below_needed : (p : Problem) (begun : ℕ) (b : DesignBox) (pending : List DesignBox) (s : State)
     → IsExplored p begun (b ∷ pending) s → s.evaluated < needed p
 below_needed p begun b pending s x =
-    let some : 1 ≤ nodes_of p b = some_nodes p b x.grids (All-head (LiesIn p.families) b pending x.lies) in
-    let more : length s.frontier ≤ nodes_on p s.frontier = frontier_nodes p s.frontier x.grids x.frontier in
+    let some : 1 ≤ nodes_of p b =
+    some_nodes p b x.grids (All-head (LiesIn p.families) b pending x.lies) in
+    let more : length s.frontier ≤ nodes_on p s.frontier =
+    frontier_nodes p s.frontier x.grids x.frontier in
     omega (arith, x.count, sum_by-cons (nodes_of p) b pending, first_trees_count p begun)

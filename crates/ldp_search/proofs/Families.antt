@@ -19,14 +19,16 @@ append_nil [] = refl
 append_nil (x ∷ xs) = ap (λ ys. x ∷ ys) (append_nil xs)
 
 -- the whole of the next family, over the families that the problem has
-next_whole : (p : Problem) (families : List Family) (index : ℕ) (whole : DesignBox) → p.families ≡ families
+next_whole : (p : Problem) (families : List Family) (index : ℕ) (whole : DesignBox)
+    → p.families ≡ families
     → whole_of families (index + 1) ≡ Some whole → whole_of p.families (suc index) ≡ Some whole
 next_whole p families index whole same e =
     let next : suc index ≡ index + 1 = omega arith in
     ap (λ fs. whole_of fs (suc index)) same ∙ ap (whole_of families) next ∙ e
 
-pub next_written : (p : Problem) (families : List Family) (index : ℕ) (whole : DesignBox) (boxes : List DesignBox)
-    (before begun after : List Node) → p.families ≡ families → whole_of families (index + 1) ≡ Some whole
+pub next_written : (p : Problem) (families : List Family) (index : ℕ) (whole : DesignBox)
+    (boxes : List DesignBox) (before begun after : List Node) → p.families ≡ families
+    → whole_of families (index + 1) ≡ Some whole
     → boxes ≡ whole ∷ [] → before ≡ first_trees p index → begun ≡ before ++ Tree (index + 1) ∷ []
     → after ≡ begun ++ trees_of p boxes → after ≡ first_trees p (index + 1)
 next_written p families index whole boxes before begun after same e one written tree all =
@@ -40,9 +42,11 @@ next_written p families index whole boxes before begun after same e one written 
     ∙ sym (next_tree p index whole (next_whole p families index whole same e))
     ∙ ap (first_trees p) next
 
-pub next_counted : (p : Problem) (families : List Family) (index : ℕ) (whole : DesignBox) (boxes : List DesignBox)
+pub next_counted : (p : Problem) (families : List Family) (index : ℕ) (whole : DesignBox)
+    (boxes : List DesignBox)
     → p.families ≡ families → whole_of families (index + 1) ≡ Some whole → boxes ≡ whole ∷ []
-    → node_count (first_trees p (index + 1)) ≡ node_count (first_trees p index) + nodes_of_all p boxes
+    → node_count (first_trees p (index + 1))
+    ≡ node_count (first_trees p index) + nodes_of_all p boxes
 next_counted p families index whole boxes same e one =
     let next : suc index ≡ index + 1 = omega arith in
     ap (λ n. node_count (first_trees p n)) (sym next)

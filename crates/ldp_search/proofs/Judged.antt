@@ -33,12 +33,15 @@ candidate_above : (p : Problem) (c : Candidate) (low : Pair) → IsCandidate p c
     → is_smaller (cost_shown c) low ≡ true → is_above low (least p) ≡ true
 candidate_above p c low is h = by_best (best p) refl
   where
-    by_best : (o : Option Ranked) → best p ≡ o → is_above low (option_map (λ x. x.cost) (best p)) ≡ true
+    by_best : (o : Option Ranked) → best p ≡ o → is_above low (option_map (λ x. x.cost) (best p))
+        ≡ true
     by_best None e = absurd (no_best_none_usable p c.design e is.admitted is.usable)
     by_best (Some x) e =
         let most : AtMost x.cost (cost_shown c) =
-        subst (AtMost x.cost) (sym (cost_is p c is)) (best_least p x c.design e is.admitted is.usable) in
-        ap (λ o. is_above low (option_map (λ y. y.cost) o)) e ∙ at_most_below x.cost (cost_shown c) low most h
+        subst (AtMost x.cost) (sym (cost_is p c is))
+        (best_least p x c.design e is.admitted is.usable) in
+        ap (λ o. is_above low (option_map (λ y. y.cost) o)) e
+        ∙ at_most_below x.cost (cost_shown c) low most h
 
 pub held_above : (p : Problem) (held : Option Candidate) (low : Pair)
     → ((c : Candidate) → held ≡ Some c → IsCandidate p c)
@@ -53,7 +56,8 @@ pub better_candidate : (p : Problem) (held : Option Candidate) (c : Candidate)
 better_candidate p None c is new = new
 better_candidate p (Some x) c is new = by_test (is_better (ranked_of c) (ranked_of x)) refl
   where
-    by_test : (t : Bool) → is_better (ranked_of c) (ranked_of x) ≡ t → IsCandidate p (better_of (Some x) c)
+    by_test : (t : Bool) → is_better (ranked_of c) (ranked_of x) ≡ t
+        → IsCandidate p (better_of (Some x) c)
     by_test true e = rw e new
     by_test false e = rw e (is x refl)
 
@@ -62,9 +66,11 @@ pub stays_beaten : (p : Problem) (held : Option Candidate) (c : Candidate) (d : 
 stays_beaten p None c d h = absurd h
 stays_beaten p (Some x) c d h = by_test (is_better (ranked_of c) (ranked_of x)) refl
   where
-    by_test : (t : Bool) → is_better (ranked_of c) (ranked_of x) ≡ t → IsBeaten p (Some (better_of (Some x) c)) d
+    by_test : (t : Bool) → is_better (ranked_of c) (ranked_of x) ≡ t
+        → IsBeaten p (Some (better_of (Some x) c)) d
     by_test true e =
-        rw e (better_weak.chain _ (ranked_of x) (ranked_of c) h (better_weak.one_way (ranked_of c) (ranked_of x) e))
+        rw e (better_weak.chain _ (ranked_of x) (ranked_of c) h
+        (better_weak.one_way (ranked_of c) (ranked_of x) e))
     by_test false e = rw e h
 
 pub new_beaten : (p : Problem) (held : Option Candidate) (c : Candidate) → IsCandidate p c
@@ -83,4 +89,5 @@ new_beaten p held c is = at_cost (cost p c.design) (cost_is p c is)
     at_cost : (k : Pair) → cost_shown c ≡ k
         → is_better (record { design = c.design; cost = k }) (ranked_of (better_of held c)) ≡ false
     at_cost k e =
-        subst (λ y. is_better (record { design = c.design; cost = y }) (ranked_of (better_of held c)) ≡ false) e (by_held held)
+        subst (λ y. is_better (record { design = c.design; cost = y })
+        (ranked_of (better_of held c)) ≡ false) e (by_held held)

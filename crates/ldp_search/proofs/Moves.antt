@@ -48,7 +48,8 @@ pub explored_begun : (p : Problem) (begun : ℕ) (whole : DesignBox) (s : State)
     → whole_of p.families (suc begun) ≡ Some whole → IsExplored p begun [] s
     → IsExplored p (suc begun) (whole ∷ []) s
 explored_begun p begun whole s e x =
-    let is : IsWhole p.families (suc begun) whole = wholes_hold p.families (suc begun) whole x.grids e in
+    let is : IsWhole p.families (suc begun) whole =
+    wholes_hold p.families (suc begun) whole x.grids e in
     record {
       sound = x.sound;
       grids = x.grids;
@@ -56,7 +57,12 @@ explored_begun p begun whole s e x =
       frontier = x.frontier;
       best = x.best;
       accounted = λ d a u. moved d a is (x.accounted d a u);
-      count = omega (arith, x.count, next_tree_counts p begun whole e, sum_by-cons (nodes_of p) whole []);
+      count = omega (
+        arith,
+        x.count,
+        next_tree_counts p begun whole e,
+        sum_by-cons (nodes_of p) whole [],
+      );
     }
   where
     moved : (d : Design) → IsAdmitted p.families d → IsWhole p.families (suc begun) whole
@@ -71,7 +77,8 @@ explored_begun p begun whole s e x =
     moved d a is (beaten h) = beaten h
 
 -- a box that has one node was evaluated, and each usable design of it is beaten
-pub explored_closed : (p : Problem) (begun : ℕ) (b : DesignBox) (pending : List DesignBox) (s t : State)
+pub explored_closed : (p : Problem) (begun : ℕ) (b : DesignBox) (pending : List DesignBox)
+    (s t : State)
     → IsExplored p begun (b ∷ pending) s → nodes_of p b ≡ 1 → t.frontier ≡ s.frontier
     → t.evaluated ≡ s.evaluated + 1 → ((c : Candidate) → t.best ≡ Some c → IsCandidate p c)
     → ((d : Design) → IsBeaten p s.best d → IsBeaten p t.best d)
@@ -87,7 +94,8 @@ explored_closed p begun b pending s t x one same counted best kept inside = reco
   count = rw same (omega (arith, x.count, sum_by-cons (nodes_of p) b pending));
 }
   where
-    moved : (d : Design) → IsUsable p d → IsAccounted p begun (b ∷ pending) s d → IsAccounted p begun pending t d
+    moved : (d : Design) → IsUsable p d → IsAccounted p begun (b ∷ pending) s d
+        → IsAccounted p begun pending t d
     moved d u (later h) = later h
     moved d u (waiting w) =
         elim (Any-cases (IsIn d) b pending w) [ inl h ↦ beaten (inside d h u) | inr h ↦ waiting h ]
@@ -95,7 +103,8 @@ explored_closed p begun b pending s t x one same counted best kept inside = reco
     moved d u (beaten h) = beaten (kept d h)
 
 -- a box was evaluated that may be split
-pub explored_kept : (p : Problem) (begun : ℕ) (o : BoundedBox) (pending : List DesignBox) (s t : State)
+pub explored_kept : (p : Problem) (begun : ℕ) (o : BoundedBox) (pending : List DesignBox)
+    (s t : State)
     → IsExplored p begun (o.region ∷ pending) s → IsSplittable p o
     → IsPermutation (o ∷ s.frontier) t.frontier → t.evaluated ≡ s.evaluated + 1 → t.best ≡ s.best
     → IsExplored p begun pending t
@@ -116,19 +125,23 @@ explored_kept p begun o pending s t x is moves counted same = record {
   );
 }
   where
-    moved : (d : Design) → IsAccounted p begun (o.region ∷ pending) s d → IsAccounted p begun pending t d
+    moved : (d : Design) → IsAccounted p begun (o.region ∷ pending) s d
+        → IsAccounted p begun pending t d
     moved d (later h) = later h
     moved d (waiting w) =
         elim (Any-cases (IsIn d) o.region pending w) [
-          | inl h ↦ held (Any-permutation (Holds d) (o ∷ s.frontier) t.frontier moves (Any-head (Holds d) o s.frontier h))
+          | inl h ↦ held (Any-permutation (Holds d) (o ∷ s.frontier) t.frontier moves
+              (Any-head (Holds d) o s.frontier h))
           | inr h ↦ waiting h
         ]
     moved d (held h) =
-        held (Any-permutation (Holds d) (o ∷ s.frontier) t.frontier moves (Any-tail (Holds d) o s.frontier h))
+        held (Any-permutation (Holds d) (o ∷ s.frontier) t.frontier moves
+        (Any-tail (Holds d) o s.frontier h))
     moved d (beaten h) = beaten (subst (λ best. IsBeaten p best d) (sym same) h)
 
 -- the same, over the families that the problem has
-pub whole_waiting : (p : Problem) (families : List Family) (begun : ℕ) (whole : DesignBox) (s : State)
+pub whole_waiting : (p : Problem) (families : List Family) (begun : ℕ) (whole : DesignBox)
+    (s : State)
     → p.families ≡ families → whole_of families (begun + 1) ≡ Some whole → IsExplored p begun [] s
     → IsExplored p (begun + 1) (whole ∷ []) s
 whole_waiting p families begun whole s same e x =

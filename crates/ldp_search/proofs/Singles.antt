@@ -23,7 +23,8 @@ pub record IsLow (p : Problem) (b : DesignBox) (m : ℕ) (v : ℤ) (k : ℕ) : T
   pub value : v ≡ pos (bound p b).value
   pub cell : k ≡ bound_cell p b
 
-pub low_pair : (p : Problem) (b : DesignBox) (over : ℕ) (value : ℤ) (cell : ℕ) → IsLow p b over value cell
+pub low_pair : (p : Problem) (b : DesignBox) (over : ℕ) (value : ℤ) (cell : ℕ)
+    → IsLow p b over value cell
     → record { over = over; value = unsigned_abs value } ≡ bound p b
 low_pair p b over value cell low =
     ap (λ x. record { over = x; value = unsigned_abs value }) low.over
@@ -35,7 +36,8 @@ unfolding bound_of
 unusable_said p b cell e = by_cell (unusable_at p b) refl e
   where
     by_cell : (o : Option ℕ) → unusable_at p b ≡ o
-        → bounds.Unusable cell ≡ bound_answer o (bound p b) (bound_cell p b) → unusable_at p b ≡ Some cell
+        → bounds.Unusable cell ≡ bound_answer o (bound p b) (bound_cell p b)
+        → unusable_at p b ≡ Some cell
     by_cell None h k = absurd cc
     by_cell (Some c) h k = let same : cell ≡ c = cc in h ∙ ap Some (sym same)
 
@@ -45,11 +47,13 @@ unfolding bound_of
 low_said p b over value cell e = by_cell (unusable_at p b) refl e
   where
     by_cell : (o : Option ℕ) → unusable_at p b ≡ o
-        → bounds.Low over value cell ≡ bound_answer o (bound p b) (bound_cell p b) → IsLow p b over value cell
+        → bounds.Low over value cell ≡ bound_answer o (bound p b) (bound_cell p b)
+        → IsLow p b over value cell
     by_cell None h k = record { usable = h; over = cc; value = cc; cell = cc }
     by_cell (Some c) h k = absurd cc
 
-pub single_is : (families : List Family) (b : DesignBox) → LiesIn families b → is_single b ≡ true → IsSingle b
+pub single_is : (families : List Family) (b : DesignBox) → LiesIn families b → is_single b ≡ true
+    → IsSingle b
 unfolding family_cut
 single_is families b lies e = (singles_end families b lies).0 (rw (lies.found, e) refl)
 
@@ -73,7 +77,8 @@ none_usable p b cell d lies e within usable = by_test (is_single b) refl
   where
     by_test : (t : Bool) → is_single b ≡ t → ⊥
     by_test true s =
-        let same : d ≡ first_of b = (singles_have_one b d (single_is p.families b lies s) within).0 in
+        let same : d ≡ first_of b =
+        (singles_have_one b d (single_is p.families b lies s) within).0 in
         let none : first_undefined p d ≡ None = usable_has_none p d usable in
         let first : first_undefined p (first_of b) ≡ Some cell = rw s at e in
         let contrary : None ≡ Some cell = sym none ∙ ap (first_undefined p) same ∙ first in
@@ -97,7 +102,8 @@ single_candidate p b over value cell sound lies s low =
     }
 
 -- a box of several designs is no unusable single
-pub several_usable : (p : Problem) (b : DesignBox) → LiesIn p.families b → (IsSingle b → ⊥) → unusable_at p b ≡ None
+pub several_usable : (p : Problem) (b : DesignBox) → LiesIn p.families b → (IsSingle b → ⊥)
+    → unusable_at p b ≡ None
 several_usable p b lies several = by_test (is_single b) refl
   where
     by_test : (t : Bool) → is_single b ≡ t → unusable_at p b ≡ None

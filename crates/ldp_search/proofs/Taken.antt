@@ -28,19 +28,22 @@ on_ok : {T E P : Type 0} (r : Result T E) → P → OnOk r P
 on_ok (Ok x) h = h
 on_ok (Err e) h = tt
 
-pub taken_unusable : (p : Problem) (b : DesignBox) (cell : ℕ) (s : State) → bounds.Unusable cell ≡ bound_of p b
+pub taken_unusable : (p : Problem) (b : DesignBox) (cell : ℕ) (s : State)
+    → bounds.Unusable cell ≡ bound_of p b
     → Advances p b s record { frontier = s.frontier; best = s.best; evaluated = s.evaluated + 1 }
 taken_unusable p b cell s e begun pending x =
     let lies = All-head (LiesIn p.families) b pending x.lies in
     let undefined : unusable_at p b ≡ Some cell = unusable_said p b cell e in
-    explored_closed p begun b pending s _ x (nodes_unusable p b cell undefined) refl refl x.best (λ d h. h)
+    explored_closed p begun b pending s _ x (nodes_unusable p b cell undefined) refl refl x.best
+    (λ d h. h)
     (λ d h u. absurd (none_usable p b cell d lies undefined h u))
 
 pub taken_single : (p : Problem) (b : DesignBox) (over : ℕ) (value : ℤ) (cell : ℕ) (s : State)
     → bounds.Low over value cell ≡ bound_of p b → is_single b ≡ true
     → Advances p b s record {
       frontier = s.frontier;
-      best = Some (better_of s.best record { design = first_of b; over = over; worst = value; cell = cell });
+      best = Some (better_of s.best record
+          { design = first_of b; over = over; worst = value; cell = cell });
       evaluated = s.evaluated + 1;
     }
 taken_single p b over value cell s e single begun pending x =
@@ -49,10 +52,12 @@ taken_single p b over value cell s e single begun pending x =
     let c : Candidate = record { design = first_of b; over = over; worst = value; cell = cell } in
     let is : IsCandidate p c = single_candidate p b over value cell x.sound lies single low in
     explored_closed p begun b pending s _ x (nodes_closed p b low.usable (rw single refl)) refl refl
-    (λ y h. subst (IsCandidate p) (inside_some (better_of s.best c) y h) (better_candidate p s.best c x.best is))
+    (λ y h. subst (IsCandidate p) (inside_some (better_of s.best c) y h)
+    (better_candidate p s.best c x.best is))
     (λ d h. stays_beaten p s.best c d h)
     (λ d h u. subst (IsBeaten p (Some (better_of s.best c)))
-    (sym (singles_have_one b d (single_is p.families b lies single) h).0) (new_beaten p s.best c is))
+    (sym (singles_have_one b d (single_is p.families b lies single) h).0)
+    (new_beaten p s.best c is))
   where
     inside_some : (y z : Candidate) → Some y ≡ Some z → y ≡ z
     inside_some y z h = cc
@@ -68,11 +73,13 @@ taken_closed p b over value cell s e above begun pending x =
     let exceeds : is_above (bound p b) (cost_held s.best) ≡ true =
     ap (λ l. is_above l (cost_held s.best)) (sym (low_pair p b over value cell low)) ∙ above in
     explored_closed p begun b pending s _ x
-    (nodes_closed p b low.usable (rw (held_above p s.best (bound p b) x.best exceeds) (or_true (is_single b))))
+    (nodes_closed p b low.usable
+    (rw (held_above p s.best (bound p b) x.best exceeds) (or_true (is_single b))))
     refl refl x.best (λ d h. h)
     (λ d h u. beaten_by s.best d exceeds (bound_below p b d x.sound lies h u))
   where
-    beaten_by : (held : Option Candidate) (d : Design) → is_above (bound p b) (cost_held held) ≡ true
+    beaten_by : (held : Option Candidate) (d : Design)
+        → is_above (bound p b) (cost_held held) ≡ true
         → AtMost (bound p b) (cost p d) → IsBeaten p held d
     beaten_by None d h at_most = absurd cc
     beaten_by (Some c) d h at_most =
@@ -80,26 +87,32 @@ taken_closed p b over value cell s e above begun pending x =
         (below_at_most (cost_shown c) (bound p b) (cost p d) h at_most)
 
 -- a box of several designs
-pub taken_several : {T E : Type 0} (r : Result T E) (b : DesignBox) (over : ℕ) (value : ℤ) (cell : ℕ)
+pub taken_several : {T E : Type 0} (r : Result T E) (b : DesignBox) (over : ℕ) (value : ℤ)
+    (cell : ℕ)
     (s t : State) → (IsSingle b → ⊥)
     → (is_above (record { over = over; value = unsigned_abs value }) (cost_held s.best) ≡ true
     → t ≡ record { frontier = s.frontier; best = s.best; evaluated = s.evaluated + 1 })
     → (is_above (record { over = over; value = unsigned_abs value }) (cost_held s.best) ≡ false
-    → OnOk r (IsPermutation (record { low = record { over = over; value = unsigned_abs value }; region = b } ∷ s.frontier) t.frontier))
+    → OnOk r (IsPermutation
+    (record { low = record { over = over; value = unsigned_abs value }; region = b }
+    ∷ s.frontier) t.frontier))
     → t.best ≡ s.best → t.evaluated ≡ s.evaluated + 1
     → OnOk r ((p : Problem) → bounds.Low over value cell ≡ bound_of p b → Advances p b s t)
 taken_several r b over value cell s t several closed splittable best evaluated =
     by_test (is_above (record { over = over; value = unsigned_abs value }) (cost_held s.best)) refl
   where
-    by_test : (u : Bool) → is_above (record { over = over; value = unsigned_abs value }) (cost_held s.best) ≡ u
+    by_test : (u : Bool) → is_above (record { over = over; value = unsigned_abs value })
+        (cost_held s.best) ≡ u
         → OnOk r ((p : Problem) → bounds.Low over value cell ≡ bound_of p b → Advances p b s t)
     by_test true h =
-        on_ok r (λ p e. subst (Advances p b s) (sym (closed h)) (taken_closed p b over value cell s e h))
+        on_ok r (λ p e. subst (Advances p b s) (sym (closed h))
+        (taken_closed p b over value cell s e h))
     by_test false h =
         on_ok_weaker r (λ moves p e begun pending x.
         let lies = All-head (LiesIn p.families) b pending x.lies in
         let low : IsLow p b over value cell = low_said p b over value cell e in
-        explored_kept p begun (record { low = record { over = over; value = unsigned_abs value }; region = b })
+        explored_kept p begun
+        (record { low = record { over = over; value = unsigned_abs value }; region = b })
         pending s t x
         (record { lies = lies; several = several; low = low_pair p b over value cell low })
         moves evaluated best) (splittable h)

@@ -6,6 +6,7 @@ use Rattle.ldp_design.specs.declared.design_box.DesignBox.{DesignBox}
 use Rattle.ldp_problem.specs.Pairs.{pair_cmp}
 use Rattle.ldp_search.specs.declared.bounded_box.BoundedBox.{BoundedBox}
 
+-- by the first index, and where that is equal by the last
 abbrev pub span_cmp : Span → Span → Ordering
 span_cmp a b = ordering_then (nat_cmp a.lo b.lo) (nat_cmp a.hi b.hi)
 

@@ -15,6 +15,7 @@ cost_shown c = record { over = c.over; value = unsigned_abs c.worst }
 abbrev pub cost_held : Option Candidate → Option Pair
 cost_held best = option_map cost_shown best
 
+-- as a ranked design
 abbrev pub ranked_of : Candidate → Ranked
 ranked_of c = record { design = c.design; cost = cost_shown c }
 

@@ -1,6 +1,7 @@
 -- How far a search has come: each usable design is accounted for, and so is each node of the
 -- canonical forest. (Own choice of this project.)
-use Rattle.std.specs.Prelude.{◌≡◌, ◌+◌, ◌<◌, ℕ, false, List, [], ◌∷◌, length, Option, None, Some, option_map, All, Any, sum_by}
+use Rattle.std.specs.Prelude.{◌≡◌, ◌+◌, ◌<◌, ℕ, false, Option, None, Some, option_map}
+use Rattle.std.specs.Prelude.{List, [], ◌∷◌, length, All, Any, sum_by}
 use Rattle.ldp_design.specs.declared.design.Design.{Design}
 use Rattle.ldp_design.specs.declared.design_box.DesignBox.{DesignBox}
 use Rattle.ldp_design.specs.Families.{AreGrids}
@@ -15,15 +16,20 @@ use Rattle.ldp_optimum.specs.Forest.{tree_of, first_trees, needed}
 use Rattle.ldp_search.specs.declared.candidate.Candidate.{Candidate}
 use Rattle.ldp_search.specs.declared.bounded_box.BoundedBox.{BoundedBox}
 use Rattle.ldp_search.specs.declared.state.State.{State}
+use Rattle.ldp_search.specs.declared.fault.SearchFault.{SearchFault}
+use Rattle.ldp_search.specs.declared.fault.SearchFault.TheVariants.{Budget, NoUsable, Memory}
 use Rattle.ldp_search.specs.Candidates.{IsCandidate, ranked_of}
+use Rattle.ldp_search.specs.Search.{IsShort}
 
 -- the number of nodes that a box has in the canonical forest
 abbrev pub nodes_of : Problem → DesignBox → ℕ
 nodes_of p b = node_count (tree_of p (least p) b)
 
+-- that of some boxes
 abbrev pub nodes_of_all : Problem → List DesignBox → ℕ
 nodes_of_all p boxes = sum_by (nodes_of p) boxes
 
+-- that of the boxes that may be split
 abbrev pub nodes_on : Problem → List BoundedBox → ℕ
 nodes_on p frontier = sum_by (λ o. nodes_of p o.region) frontier
 
@@ -44,7 +50,8 @@ IsBeaten p (Some c) d = is_better (record { design = d; cost = cost p d }) (rank
 
 -- a design of a family that is to come, of a box that is to be evaluated, of a box that may be
 -- split, or one that is no better than the best so far
-pub data IsAccounted (p : Problem) (begun : ℕ) (pending : List DesignBox) (s : State) (d : Design) : Type 0 where
+pub data IsAccounted (p : Problem) (begun : ℕ) (pending : List DesignBox) (s : State)
+    (d : Design) : Type 0 where
   later : begun < d.family → IsAccounted p begun pending s d
   waiting : IsInSome d pending → IsAccounted p begun pending s d
   held : Any (Holds d) s.frontier → IsAccounted p begun pending s d
@@ -53,7 +60,8 @@ pub data IsAccounted (p : Problem) (begun : ℕ) (pending : List DesignBox) (s :
 -- So many families are begun, and these boxes are to be evaluated next. Of the nodes of the
 -- families that are begun, those of boxes to come are not yet evaluated, and of each box that may
 -- be split one is.
-pub record IsExplored (p : Problem) (begun : ℕ) (pending : List DesignBox) (s : State) : Type 0 where
+pub record IsExplored (p : Problem) (begun : ℕ) (pending : List DesignBox)
+    (s : State) : Type 0 where
   pub sound : IsSound p
   pub grids : AreGrids p.families
   pub lies : AllLieIn p.families pending
@@ -86,3 +94,9 @@ pub record IsDone (p : Problem) (s : State) : Type 0 where
   pub best : best p ≡ option_map ranked_of s.best
   pub candidate : (c : Candidate) → s.best ≡ Some c → IsCandidate p c
   pub evaluated : s.evaluated ≡ needed p
+
+-- why the evaluation of boxes stops early; nothing is said of want of memory
+abbrev pub IsStop : Problem → ℕ → SearchFault → Type 0
+IsStop p budget (Budget evaluated) = IsShort p budget evaluated
+IsStop p budget (NoUsable nodes) = ⊥
+IsStop p budget Memory = Unit {0}

@@ -38,12 +38,6 @@ IsFault p budget (Budget evaluated) = IsShort p budget evaluated
 IsFault p budget (NoUsable nodes) = HasNoUsable p budget nodes
 IsFault p budget Memory = Unit {0}
 
--- as long as boxes are evaluated there is no other fault
-abbrev pub IsStop : Problem → ℕ → SearchFault → Type 0
-IsStop p budget (Budget evaluated) = IsShort p budget evaluated
-IsStop p budget (NoUsable nodes) = ⊥
-IsStop p budget Memory = Unit {0}
-
 -- how often a search asks: at most twice for each node of a forest that it made or that shows that
 -- no design is usable, and else at most twice the budget
 abbrev pub most_asked : ℕ → Result Found SearchFault → ℕ

@@ -19,8 +19,10 @@ pub record IsOpen (p : Problem) (b : DesignBox) (cell : ℕ) : Type 0 where
   pub below : is_above (bound p b) (least p) ≡ false
   pub at : cell ≡ bound_cell p b
 
--- the first node of a box is written, and its other nodes are those of the boxes that come first now
-pub record Writes (p : Problem) (b : DesignBox) (old new : List DesignBox) (before after : List Node) : Type 0 where
+-- the first node of a box is written, and its other nodes are those of the boxes that come first
+-- now
+pub record Writes (p : Problem) (b : DesignBox) (old new : List DesignBox)
+    (before after : List Node) : Type 0 where
   pub trees : after ++ trees_of p new ≡ before ++ (tree_of p (least p) b ++ trees_of p old)
   pub lies : AllLieIn p.families old → AllLieIn p.families new
   pub nodes : 1 + nodes_of_all p new ≡ nodes_of p b + nodes_of_all p old

@@ -16,6 +16,7 @@ pub struct Candidate {
 }
 
 impl Candidate {
+    /// The cost of the design.
     pub fn cost(&self) -> Pair
         ensures { result ≡ cost_shown self.now }
     {

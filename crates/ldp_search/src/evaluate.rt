@@ -1,8 +1,7 @@
 ghost use Rattle.std.specs.Prelude.{◌≡◌, ◌+◌, ◌≤◌, ℕ, List, ◌∷◌, OnOk, IfErr};
 ghost use Rattle.ldp_design.specs.declared.design_box.DesignBox.{DesignBox};
 ghost use Rattle.ldp_design.specs.Boxes.{LiesIn};
-ghost use Rattle.ldp_search.specs.Explored.{Advances, IsExplored};
-ghost use Rattle.ldp_search.specs.Search.{IsStop};
+ghost use Rattle.ldp_search.specs.Explored.{Advances, IsExplored, IsStop};
 
 use crate::fault::SearchFault;
 use crate::state::State;

@@ -1,6 +1,5 @@
 ghost use Rattle.std.specs.Prelude.{◌≡◌, ◌+◌, ◌≤◌, [], None, OnOk, IfErr};
-ghost use Rattle.ldp_search.specs.Explored.{IsReady, IsWaiting, IsDone};
-ghost use Rattle.ldp_search.specs.Search.{IsStop};
+ghost use Rattle.ldp_search.specs.Explored.{IsReady, IsWaiting, IsDone, IsStop};
 
 use crate::evaluate::evaluate;
 use crate::fault::SearchFault;

@@ -24,7 +24,8 @@ impl Model for Frontier {
 
     ghost view = { λ frontier. map (λ reversed. reversed.0) (heap_items frontier.heap) };
 
-    ghost invariant = { λ frontier. IsHeap (λ a b. bounded_cmp b.0 a.0) (heap_items frontier.heap) };
+    ghost invariant = { λ frontier.
+        IsHeap (λ a b. bounded_cmp b.0 a.0) (heap_items frontier.heap) };
 }
 
 impl Frontier {

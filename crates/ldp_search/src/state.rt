@@ -1,4 +1,4 @@
-ghost use Rattle.std.specs.Prelude.{◌≡◌, ◌+◌, ◌-◌, ◌<◌, ◌^◌, [], ◌∷◌, true, false, OnOk, IfSome, IfNone};
+ghost use Rattle.std.specs.Prelude.{◌≡◌, ◌+◌, ◌<◌, [], ◌∷◌, true, false, OnOk, IfSome, IfNone};
 ghost use Rattle.std.specs.List.Sorted.{IsPermutation};
 ghost use Rattle.ldp_problem.specs.Problem.{Problem};
 ghost use Rattle.ldp_problem.specs.Costs.{bound_of};
@@ -37,7 +37,7 @@ impl State {
 
     /// Takes in the bound of a box.
     pub fn take(&mut self, b: &DesignBox, bound: Bound) -> Result<(), AllocError>
-        requires { self.old.evaluated < 2 ^ 32 - 1 }
+        requires { self.old.evaluated < 1_000_000 }
         ensures next { OnOk result ((p : Problem) → bound ≡ bound_of p b.now
             → Advances p b.now self.old self.new) }
         ensures evaluated { self.new.evaluated ≡ self.old.evaluated + 1 }

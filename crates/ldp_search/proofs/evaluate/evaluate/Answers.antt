@@ -6,5 +6,6 @@ pub returns-then-state-budget-clause-fault : goal.returns-then-state-budget-clau
 returns-then-state-budget-clause-fault g c =
     (λ begun pending x. record {
       evaluated = refl;
-      short = let below = below_needed _ begun c.args.b.now pending c.args.state.now x in omega (arith, below);
+      short = let below = below_needed _ begun c.args.b.now pending c.args.state.now x in omega
+          (arith, below);
     })

@@ -1,15 +1,15 @@
 use Rattle.std.proofs.Common.{[], ◌+◌, ◌≤◌, refl, ap, subst, sym, ◌∙◌, arith}
 use Rattle.std.proofs.lemmas.Result.{err_from_is_err_and}
 use Rattle.ldp_design.specs.Families.{AreGrids}
-use Rattle.ldp_search.specs.Explored.{IsExplored}
-use Rattle.ldp_search.specs.Search.{IsStop}
+use Rattle.ldp_search.specs.Explored.{IsExplored, IsStop}
 use Rattle.ldp_search.proofs.Moves.{explored_none, whole_waiting}
 use Rattle.ldp_search.proofs.explore.begin_all.Goals as goal
 
 pub returns-in_err-evaluate-clause-fault : goal.returns-in_err-evaluate-clause-fault
 returns-in_err-evaluate-clause-fault g c =
     let p = err_from_is_err_and c.from_residual.result c.from_residual.ensures.1 in
-    rw (p.1, p.2) (subst (λ q. IsStop q c.args.budget c.in_err-evaluate.field-0.0) c.loop-index.invariant.same
+    rw (p.1, p.2) (subst (λ q. IsStop q c.args.budget c.in_err-evaluate.field-0.0)
+    c.loop-index.invariant.same
     (c.in_err-evaluate.ensures.fault (c.loop-index.index + 1) []
     (whole_waiting _ c.args.grids.now c.loop-index.index c.whole.result c.loop-index.state
     (ap (λ q. q.families) c.loop-index.invariant.same ∙ c.requires.grids) c.whole.ensures.value

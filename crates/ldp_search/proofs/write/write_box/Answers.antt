@@ -12,19 +12,23 @@ use Rattle.ldp_search.proofs.write.write_box.Goals as goal
 pub returns-in-Unusable-clause-writes : goal.returns-in-Unusable-clause-writes
 returns-in-Unusable-clause-writes g c =
     on_ok_weaker c.push.result
-    (λ pushed. writes_unusable _ c.args.b.now c.in-Unusable.cell c.args.stack.now c.args.forest.now _
+    (λ pushed. writes_unusable _ c.args.b.now c.in-Unusable.cell c.args.stack.now c.args.forest.now
+    _
     (unusable_said _ c.args.b.now c.in-Unusable.cell c.in-Unusable.ensures.value) pushed)
     c.push.ensures.ok
 
 pub returns-then-lt-clause-writes : goal.returns-then-lt-clause-writes
 returns-then-lt-clause-writes g c =
     let fits : SFits w128 c.in-Low.value = search rules in
-    let low = low_said _ c.args.b.now c.in-Low.over c.in-Low.value c.in-Low.cell c.in-Low.ensures.value in
+    let low = low_said _ c.args.b.now c.in-Low.over c.in-Low.value c.in-Low.cell
+    c.in-Low.ensures.value in
     let size : c.unsigned_abs.result ≡ unsigned_abs c.in-Low.value =
     c.unsigned_abs.ensures.value ∙ ap unsigned_abs (to_z-of_z w128 c.in-Low.value fits) in
-    let smaller : is_smaller c.args.cost (record { over = c.in-Low.over; value = c.unsigned_abs.result }) ≡ true =
+    let smaller : is_smaller c.args.cost
+    (record { over = c.in-Low.over; value = c.unsigned_abs.result }) ≡ true =
     search rules in
-    let above = above_shown _ c.args.b.now c.in-Low.over c.in-Low.value c.in-Low.cell c.args.cost c.unsigned_abs.result true
+    let above = above_shown _ c.args.b.now c.in-Low.over c.in-Low.value c.in-Low.cell c.args.cost
+    c.unsigned_abs.result true
     low c.requires.least size smaller in
     on_ok_weaker c.push-then-lt.result
     (λ pushed. writes_above _ c.args.b.now c.in-Low.cell c.args.stack.now c.args.forest.now _
@@ -34,13 +38,17 @@ returns-then-lt-clause-writes g c =
 pub returns-else-lt-clause-writes : goal.returns-else-lt-clause-writes
 returns-else-lt-clause-writes g c =
     let fits : SFits w128 c.in-Low.value = search rules in
-    let low = low_said _ c.args.b.now c.in-Low.over c.in-Low.value c.in-Low.cell c.in-Low.ensures.value in
+    let low = low_said _ c.args.b.now c.in-Low.over c.in-Low.value c.in-Low.cell
+    c.in-Low.ensures.value in
     let size : c.unsigned_abs.result ≡ unsigned_abs c.in-Low.value =
     c.unsigned_abs.ensures.value ∙ ap unsigned_abs (to_z-of_z w128 c.in-Low.value fits) in
-    let smaller : is_smaller c.args.cost (record { over = c.in-Low.over; value = c.unsigned_abs.result }) ≡ false =
+    let smaller : is_smaller c.args.cost
+    (record { over = c.in-Low.over; value = c.unsigned_abs.result }) ≡ false =
     search rules in
-    let below = above_shown _ c.args.b.now c.in-Low.over c.in-Low.value c.in-Low.cell c.args.cost c.unsigned_abs.result false
+    let below = above_shown _ c.args.b.now c.in-Low.over c.in-Low.value c.in-Low.cell c.args.cost
+    c.unsigned_abs.result false
     low c.requires.least size smaller in
     on_ok_weaker c.write_open.result
-    (λ writes. writes _ c.requires.families (record { usable = low.usable; below = below; at = low.cell }))
+    (λ writes. writes _ c.requires.families
+    (record { usable = low.usable; below = below; at = low.cell }))
     c.write_open.ensures.writes

@@ -9,5 +9,6 @@ invariant-loop-index g l = record {
   empty : l.stack ≡ [];
   same : g.B.Bounds.problem l.bounds ≡ g.B.Bounds.problem l.fn.bounds;
   asked : g.B.Bounds.times l.bounds
-      ≤ g.B.Bounds.times l.fn.bounds + node_count (first_trees (g.B.Bounds.problem l.fn.bounds) l.index);
+      ≤ g.B.Bounds.times l.fn.bounds + node_count
+      (first_trees (g.B.Bounds.problem l.fn.bounds) l.index);
 }

@@ -22,7 +22,8 @@ returns c = record {
       (λ pushed p same is.
       let stacked : c.push-4.new.self ≡ c.cut.result.0 ∷ c.cut.result.1 ∷ c.args.stack.now =
       pushed ∙ ap (λ boxes. c.cut.result.0 ∷ boxes) c.in_ok-push-2.ensures in
-      writes_split p c.args.b.now c.args.cell c.in-Some.axis c.in-Some.at c.args.stack.now _ c.args.forest.now _
+      writes_split p c.args.b.now c.args.cell c.in-Some.axis c.in-Some.at c.args.stack.now _
+      c.args.forest.now _
       (subst AreGrids (sym same) c.requires.grids)
       (subst (λ fs. LiesIn fs c.args.b.now) (sym same) c.requires.lies) is
       (ap (λ fs. cut_for fs c.args.b.now) same ∙ sym c.cut_for.ensures.value ∙ c.in-Some.is)

@@ -9,7 +9,8 @@ use Rattle.ldp_search.proofs.state.State.take.Goals as goal
 
 pub returns-in-Unusable-clause-next : goal.returns-in-Unusable-clause-next
 returns-in-Unusable-clause-next c =
-    (λ p e. taken_unusable p c.args.b.now c.in-Unusable.cell c.args.self.now (sym c.in-Unusable.is ∙ e))
+    (λ p e. taken_unusable p c.args.b.now c.in-Unusable.cell c.args.self.now (sym c.in-Unusable.is
+    ∙ e))
 
 pub returns-then-is_single-clause-next : goal.returns-then-is_single-clause-next
 returns-then-is_single-clause-next c =
