@@ -1,3 +1,8 @@
+ghost use Rattle.std.specs.Prelude.{◌≡◌, ◌*◌, ◌≤◌};
+ghost use Rattle.ldp_heights.specs.Grid.{most_places};
+ghost use Rattle.ldp_heights.specs.Ranges.{IsLayout};
+ghost use Rattle.ldp_heights.specs.Seen.{layout_seen};
+
 use crate::class::Class;
 use crate::coordinate::Coordinate;
 
@@ -11,4 +16,14 @@ pub struct Layout {
     pub spacing: u64,
     /// The class of a missing height.
     pub missing: Class,
+}
+
+impl Layout {
+    pub fn places(&self) -> usize
+        requires { IsLayout (layout_seen self.now) }
+        ensures value { result ≡ self.now.cols * self.now.rows }
+        ensures range { result ≤ most_places }
+    {
+        (self.cols * self.rows) as usize
+    }
 }
