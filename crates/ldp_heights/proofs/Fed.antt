@@ -1,18 +1,18 @@
 -- Reading byte by byte gives the grid of the text.
 use Rattle.std.proofs.Common.{◌≡◌, ℕ, ◌+◌, ◌==◌, nat_eq, Bool, true, false, ◌&&◌, List, [], ◌∷◌}
 use Rattle.std.proofs.Common.{◌++◌, length, drop, filter, arith, refl, sym, ap, ◌∙◌, append_assoc}
-use Rattle.std.proofs.Common.{append-nil, take, if◌then◌else◌, suc, ◌≢◌, Some, Err, option_map}
+use Rattle.std.proofs.Common.{append-nil, take, ◌≢◌, Some, Err, option_map}
 use Rattle.std.proofs.Common.{IfSome}
 use Rattle.std.proofs.lemmas.Bool.Decides.{nat_tests}
+use Rattle.std.proofs.lemmas.List.{length-append}
 use Rattle.std.specs.List.{starts_with}
-use Rattle.ldp_tokens.specs.Mark.{mark, mark_len, without_mark}
+use Rattle.ldp_tokens.specs.Mark.{mark}
 use Rattle.ldp_tokens.specs.Tokens.{Token, is_white, onto_first, pieces, is_some_run, tokens}
-use Rattle.ldp_tokens.specs.Tokens.{tokens_of}
-use Rattle.ldp_heights.specs.Reading.{heights_of, grid_of}
+use Rattle.ldp_heights.specs.Reading.{heights_of}
 use Rattle.ldp_heights.specs.Known.{Known, nothing, grow}
-use Rattle.ldp_heights.specs.Stages.{SoFar, at_start, and_token, and_end}
-use Rattle.ldp_heights.specs.Pieces.{State, start, closed, white, is_mark, grown, byte, go, end}
-use Rattle.ldp_heights.specs.Pieces.{Reader, Holds}
+use Rattle.ldp_heights.specs.Stages.{at_start, and_end}
+use Rattle.ldp_heights.specs.Pieces.{State, start, closed, white, is_mark, byte, go, end}
+use Rattle.ldp_heights.specs.Pieces.{Reader, bytes_taken, Holds}
 use Rattle.ldp_heights.specs.declared.fault.HeightFault.TheVariants.{Memory}
 use Rattle.ldp_heights.proofs.Tokenwise.{Answer, answer, all_of, grid_taken}
 use Rattle.ldp_heights.proofs.KnownTokens.{Tells, tells_nothing, tells_more, known_read}
@@ -36,7 +36,8 @@ onto_none : (place b : ℕ) (others : List Token)
 onto_none place b [] = refl
 onto_none place b (piece ∷ others) = refl
 
-glue_none : (place : ℕ) (text : List ℕ) → glue place [] (pieces [] place text) ≡ pieces [] place text
+glue_none : (place : ℕ) (text : List ℕ)
+    → glue place [] (pieces [] place text) ≡ pieces [] place text
 glue_none place [] = refl
 glue_none place (b ∷ bs) = by_white (is_white b) refl where
   by_white : (ends : Bool) → is_white b ≡ ends
@@ -118,8 +119,11 @@ byte_further s b w m = rw (w, m) refl
 further_follows : (s : State) (front : List ℕ) (b : ℕ) (bs : List ℕ) → is_white b ≡ false
     → follows (further s b) (front ++ b ∷ []) bs ≡ follows s front (b ∷ bs)
 further_follows s front b bs w =
-    rw (w, one_further s.taken b bs,
-    glue_onto s.place s.taken b front (pieces [] (s.taken + 1) bs)) refl
+    rw (
+      w,
+      one_further s.taken b bs,
+      glue_onto s.place s.taken b front (pieces [] (s.taken + 1) bs),
+    ) refl
 
 -- the bytes that follow those of the unfinished token
 fed : (s : State) (front text : List ℕ) → Tells s.token front → NoMark s.place front text
@@ -136,14 +140,14 @@ fed s front (b ∷ bs) tells free =
     let over : NoMark (s.taken + 1) [] bs = λ first. absurd (omega (arith, first)) in
     by_white (is_white b) refl marks (fed (white s) [] bs tells_nothing over)
     (fed (further s b) (front ++ b ∷ []) bs more joined) where
-  by_white : (ends : Bool) → is_white b ≡ ends → is_mark s.place (grow s.token b) ≡ false
-      → end (go (white s) bs) ≡ follows (white s) [] bs
-      → end (go (further s b) bs) ≡ follows (further s b) (front ++ b ∷ []) bs
-      → end (go s (b ∷ bs)) ≡ follows s front (b ∷ bs)
-  by_white true w m ended grows =
-      ap (λ t. end (go t bs)) (byte_white s b w) ∙ ended ∙ white_follows s front b bs tells w
-  by_white false w m ended grows =
-      ap (λ t. end (go t bs)) (byte_further s b w m) ∙ grows ∙ further_follows s front b bs w
+      by_white : (ends : Bool) → is_white b ≡ ends → is_mark s.place (grow s.token b) ≡ false
+          → end (go (white s) bs) ≡ follows (white s) [] bs
+          → end (go (further s b) bs) ≡ follows (further s b) (front ++ b ∷ []) bs
+          → end (go s (b ∷ bs)) ≡ follows s front (b ∷ bs)
+      by_white true w m ended grows =
+          ap (λ t. end (go t bs)) (byte_white s b w) ∙ ended ∙ white_follows s front b bs tells w
+      by_white false w m ended grows =
+          ap (λ t. end (go t bs)) (byte_further s b w m) ∙ grows ∙ further_follows s front b bs w
 
 -- a text without a mark
 unmarked_read : (text : List ℕ) → starts_with nat_eq text mark ≡ false
@@ -177,7 +181,8 @@ marked_read text =
 -- the bytes of a text, one by one, are read to its grid
 pub text_fed : (text : List ℕ) → end (go start text) ≡ heights_of text
 text_fed text = by_mark (starts_with nat_eq text mark) refl where
-  by_mark : (has : Bool) → starts_with nat_eq text mark ≡ has → end (go start text) ≡ heights_of text
+  by_mark : (has : Bool) → starts_with nat_eq text mark ≡ has
+      → end (go start text) ≡ heights_of text
   by_mark false m = unmarked_read text m
   by_mark true m = rw (marked text m) (marked_read (drop 3 text))
 
@@ -203,11 +208,13 @@ bytes_counted s (b ∷ bs) =
 
 -- a reader that was fed one more piece
 pub holds_more : (old new : Reader) (text piece : List ℕ) → Holds old text
-    → new ≡ option_map (λ s. go s piece) old → Holds new (text ++ piece)
-holds_more old new text piece holds fed_is = (
-    fed_is ∙ rw holds.0 (ap Some (pieces_joined start text piece)),
-    bytes_counted start (text ++ piece) ∙ omega arith,
-  )
+    → new ≡ option_map (λ s. go s piece) old
+    → bytes_taken new ≡ bytes_taken old + length piece
+    → Holds new (text ++ piece)
+holds_more old new text piece holds is_fed is_counted = (
+  is_fed ∙ rw holds.0 (ap Some (pieces_joined start text piece)),
+  is_counted ∙ (let both = length-append text piece in omega (arith, holds.1, both)),
+)
 
 -- what a reader of a text answers
 pub holds_read : (reader : Reader) (text : List ℕ) (given : Answer) → Holds reader text

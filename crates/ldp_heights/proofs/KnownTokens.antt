@@ -1,7 +1,7 @@
 -- What is known of a token is enough to read it.
-use Rattle.std.proofs.Common.{◌≡◌, ℕ, ◌+◌, ◌-◌, ◌*◌, ◌<◌, ◌≤◌, min, zero, suc, nat_le, nat_lt, nat_eq}
-use Rattle.std.proofs.Common.{Bool, true, false, ◌&&◌, List, [], ◌∷◌, ◌++◌, length, take, map, Option}
-use Rattle.std.proofs.Common.{Result, Ok, Err, arith, refl, sym, ap, ◌∙◌, if◌then◌else◌, codes, lit<}
+use Rattle.std.proofs.Common.{◌≡◌, ℕ, ◌+◌, ◌-◌, ◌*◌, ◌<◌, ◌≤◌, zero, suc, nat_le, nat_lt, nat_eq}
+use Rattle.std.proofs.Common.{Bool, true, false, ◌&&◌, List, [], ◌∷◌, ◌++◌, length, take}
+use Rattle.std.proofs.Common.{Ok, Err, arith, refl, sym, ap, ◌∙◌, if◌then◌else◌, codes, lit<}
 use Rattle.std.proofs.Common.{ℤ}
 use Rattle.std.proofs.lemmas.Bool.Decides.{nat_tests}
 use Rattle.std.proofs.lemmas.List.{take_all, take-append-le, length_push, length-take}
@@ -15,16 +15,15 @@ use Rattle.ldp_decimal.specs.Grammar.{value, value_after, parts}
 use Rattle.ldp_decimal.specs.Reading.{decimal_value, decimal_of}
 use Rattle.ldp_tokens.specs.Tokens.{Token}
 use Rattle.ldp_heights.specs.Grid.{most_places}
-use Rattle.ldp_heights.specs.Classes.{Class, is_nan, class_of}
+use Rattle.ldp_heights.specs.Classes.{is_nan, class_of}
 use Rattle.ldp_heights.specs.Header.{Header, Name, ncols, nrows, xllcorner, xllcenter, yllcorner}
-use Rattle.ldp_heights.specs.Header.{yllcenter, cellsize, nodata_value, begins_number, begins_height}
-use Rattle.ldp_heights.specs.Header.{header_word, word_at, count_at, count_of, degrees_of, spacing_of}
-use Rattle.ldp_heights.specs.Header.{with_value}
+use Rattle.ldp_heights.specs.Header.{yllcenter, cellsize, nodata_value, begins_number}
+use Rattle.ldp_heights.specs.Header.{begins_height, header_word, word_at, count_at, count_of}
+use Rattle.ldp_heights.specs.Header.{degrees_of, spacing_of, with_value}
 use Rattle.ldp_heights.specs.Reading.{height_of}
-use Rattle.ldp_heights.specs.Known.{Known, nothing, kept_value, kept_first, grow, token_at}
+use Rattle.ldp_heights.specs.Known.{Known, nothing, kept_value, grow, token_at}
 use Rattle.ldp_heights.specs.Stages.{Stage, at_word, at_value, at_height, SoFar, header_left}
 use Rattle.ldp_heights.specs.Stages.{known_count, with_known, with_height, taken_at, and_token}
-use Rattle.ldp_heights.specs.declared.fault.HeightFault.{HeightFault}
 use Rattle.ldp_heights.proofs.Tokenwise.{placed, step}
 
 -- what is known of the token with these bytes
@@ -84,7 +83,7 @@ tells_more known bytes byte tells = record {
   digits = rw tells.digits (sym (digits_grown byte bytes));
   value = λ all.
       let each = both (list_all is_ascii_digit bytes) (is_ascii_digit byte)
-          (sym (digits_grown byte bytes) ∙ all) in
+      (sym (digits_grown byte bytes) ∙ all) in
       rw (tells.digits, each.0, each.1, tells.value each.0, one_digit 0 byte bytes)
       (keeps_on (value bytes) (byte - 48));
 }
@@ -117,11 +116,16 @@ height_first bytes = rw (number_first bytes, nan_first bytes) refl
 name_first : (bytes : List ℕ) → header_word (take 65 bytes) ≡ header_word bytes
 unfolding header_word
 name_first bytes =
-    rw (word_first bytes (codes "ncols") (lit< tt), word_first bytes (codes "nrows") (lit< tt),
-    word_first bytes (codes "xllcorner") (lit< tt), word_first bytes (codes "xllcenter") (lit< tt),
-    word_first bytes (codes "yllcorner") (lit< tt), word_first bytes (codes "yllcenter") (lit< tt),
-    word_first bytes (codes "cellsize") (lit< tt),
-    word_first bytes (codes "nodata_value") (lit< tt)) refl
+    rw (
+      word_first bytes (codes "ncols") (lit< tt),
+      word_first bytes (codes "nrows") (lit< tt),
+      word_first bytes (codes "xllcorner") (lit< tt),
+      word_first bytes (codes "xllcenter") (lit< tt),
+      word_first bytes (codes "yllcorner") (lit< tt),
+      word_first bytes (codes "yllcenter") (lit< tt),
+      word_first bytes (codes "cellsize") (lit< tt),
+      word_first bytes (codes "nodata_value") (lit< tt),
+    ) refl
 
 parts_by : (bytes : List ℕ) (few : Bool) → nat_le (length bytes) 64 ≡ few
     → parts (take 65 bytes) ≡ parts bytes
@@ -130,8 +134,8 @@ parts_by bytes true h =
     let few : length bytes ≤ 65 = grind (arith, nat_tests) in
     rw (take_all 65 bytes few) refl
 parts_by bytes false h =
-    let many : length (take 65 bytes) ≡ 65 =
-    length-take 65 bytes ∙ (let more : 65 ≤ length bytes = grind (arith, nat_tests) in omega arith) in
+    let more : 65 ≤ length bytes = grind (arith, nat_tests) in
+    let many : length (take 65 bytes) ≡ 65 = length-take 65 bytes ∙ omega (arith, more) in
     rw (h, many) refl
 
 decimal_first : (places : ℕ) (bytes : List ℕ)
@@ -163,9 +167,9 @@ value_kept place n false h =
     let over : most_places < n = grind (arith, nat_tests) in
     let same : kept_value n ≡ most_places + 1 = omega (arith, over) in
     rw (same, h, and_none (nat_le 1 n)) refl where
-  and_none : (p : Bool) → (p && false) ≡ false
-  and_none true = refl
-  and_none false = refl
+      and_none : (p : Bool) → (p && false) ≡ false
+      and_none true = refl
+      and_none false = refl
 
 count_by : (place : ℕ) (known : Known) (bytes : List ℕ) (digits : Bool) → Tells known bytes
     → list_all is_ascii_digit bytes ≡ digits
@@ -204,7 +208,8 @@ value_known met cellsize place known bytes tells =
     rw (tells.first, degrees_first _ _ record { place = place; bytes = bytes }) refl
 value_known met nodata_value place known bytes tells = rw (tells.first, class_first bytes) refl
 
-left_first : (token : Token) (stage : Stage) → header_left (short token) stage ≡ header_left token stage
+left_first : (token : Token) (stage : Stage)
+    → header_left (short token) stage ≡ header_left token stage
 unfolding header_left
 left_first token (at_word met) = rw (height_first token.bytes) refl
 left_first token (at_value met word) = refl

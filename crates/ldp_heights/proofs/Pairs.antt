@@ -1,9 +1,9 @@
 -- One pair of a header after another.
-use Rattle.std.proofs.Common.{◌≡◌, ℕ, false, List, [], ◌∷◌, Ok}
+use Rattle.std.proofs.Common.{◌≡◌, ℕ, false, List, ◌∷◌, Ok}
 use Rattle.std.proofs.Common.{refl}
 use Rattle.ldp_tokens.specs.Tokens.{Token}
 use Rattle.ldp_heights.specs.Header.{Header, Name, begins_height, word_at, with_value}
-use Rattle.ldp_heights.specs.Header.{header_of, headed}
+use Rattle.ldp_heights.specs.Header.{header_of}
 
 pub pair_read : (end : ℕ) (met more : Header) (word given : Token) (rest : List Token) (name : Name)
     → begins_height word.bytes ≡ false → word_at met word ≡ Ok name

@@ -1,18 +1,18 @@
 -- Reading token by token, with each token whole, gives the grid of all tokens.
 use Rattle.std.proofs.Common.{◌≡◌, ℕ, ◌+◌, ◌*◌, ◌==◌, Bool, true, false, ℤ, List, [], ◌∷◌, ◌++◌}
-use Rattle.std.proofs.Common.{length, Option, Result, Ok, Err, refl, sym, ◌∙◌, append_assoc}
-use Rattle.std.proofs.Common.{append-nil, if◌then◌else◌}
+use Rattle.std.proofs.Common.{length, Option, Result, Ok, Err, refl, ◌∙◌, append_assoc}
+use Rattle.std.proofs.Common.{append-nil}
 use Rattle.std.proofs.lemmas.List.{length_push}
 use Rattle.ldp_quantity.specs.Results.{◌>>=◌}
 use Rattle.ldp_tokens.specs.Tokens.{Token}
 use Rattle.ldp_heights.specs.Grid.{HeightGrid}
 use Rattle.ldp_heights.specs.Header.{Header, Name, Layout, no_words, begins_height, word_at}
-use Rattle.ldp_heights.specs.Header.{with_value, header_of, headed, layout_of}
+use Rattle.ldp_heights.specs.Header.{with_value, header_of, layout_of}
 use Rattle.ldp_heights.specs.Reading.{height_of, heights_from, heights_under, grid_of, grid_with}
 use Rattle.ldp_heights.specs.Stages.{Stage, at_word, at_value, at_height, SoFar, header_left}
 use Rattle.ldp_heights.specs.Stages.{with_height, whole, ended, and_end}
 use Rattle.ldp_heights.specs.declared.fault.HeightFault.{HeightFault}
-use Rattle.ldp_heights.specs.declared.fault.HeightFault.TheVariants.{Trailing, BadNumber}
+use Rattle.ldp_heights.specs.declared.fault.HeightFault.TheVariants.{Trailing}
 
 -- a whole token taken in its place
 unfoldable pub placed : Token → Stage → SoFar
@@ -50,17 +50,16 @@ one_more : (layout : Layout) (front : List (Option ℤ)) (height : Option ℤ)
 one_more layout front height (Ok rest) = rw append_assoc refl
 one_more layout front height (Err fault) = refl
 
-
 height_taken : (end : ℕ) (layout : Layout) (front : List (Option ℤ)) (token : Token)
     (tokens : List Token) (full : Bool) (read : Result (Option ℤ) HeightFault)
     → (length front == layout.cols * layout.rows) ≡ full
     → height_of layout.missing token ≡ read
     → ((height : Option ℤ) → answer end (Ok (at_height layout (front ++ height ∷ []))) tokens
-        ≡ and_heights layout (front ++ height ∷ []) (heights_from layout.missing
-            (layout.cols * layout.rows) (length (front ++ height ∷ [])) tokens))
+    ≡ and_heights layout (front ++ height ∷ []) (heights_from layout.missing
+    (layout.cols * layout.rows) (length (front ++ height ∷ [])) tokens))
     → answer end (Ok (at_height layout front)) (token ∷ tokens)
     ≡ and_heights layout front
-        (heights_from layout.missing (layout.cols * layout.rows) (length front) (token ∷ tokens))
+    (heights_from layout.missing (layout.cols * layout.rows) (length front) (token ∷ tokens))
 unfolding step header_left placed with_height
 height_taken end layout front token tokens true read f h others =
     rw f (first_fault end (Trailing token.place) tokens)
@@ -69,12 +68,12 @@ height_taken end layout front token tokens false (Err fault) f h others =
 height_taken end layout front token tokens false (Ok height) f h others =
     rw (f, h, others height, length_push front height)
     (one_more layout front height (heights_from layout.missing (layout.cols * layout.rows)
-        (length front + 1) tokens))
+    (length front + 1) tokens))
 
 no_more : (end : ℕ) (layout : Layout) (front : List (Option ℤ)) (full : Bool)
     → (length front == layout.cols * layout.rows) ≡ full
     → whole layout front ≡ and_heights layout front
-        (heights_from layout.missing (layout.cols * layout.rows) (length front) [])
+    (heights_from layout.missing (layout.cols * layout.rows) (length front) [])
 no_more end layout front true f = rw (f, append-nil) refl
 no_more end layout front false f = rw f refl
 
@@ -82,7 +81,7 @@ no_more end layout front false f = rw f refl
 heights_taken : (end : ℕ) (layout : Layout) (front : List (Option ℤ)) (tokens : List Token)
     → answer end (Ok (at_height layout front)) tokens
     ≡ and_heights layout front
-        (heights_from layout.missing (layout.cols * layout.rows) (length front) tokens)
+    (heights_from layout.missing (layout.cols * layout.rows) (length front) tokens)
 unfolding ended
 heights_taken end layout front [] =
     no_more end layout front (length front == layout.cols * layout.rows) refl
@@ -133,12 +132,12 @@ pair_taken end met word given tokens (Err fault) b n others =
     rw (b, n) (first_fault end fault tokens)
 pair_taken end met word given tokens (Ok name) b n others =
     rw (b, n) (valued (with_value met name given) refl) where
-  valued : (read : Result Header HeightFault) → with_value met name given ≡ read
-      → answer end (read >>= λ more. Ok (at_word more)) tokens
-      ≡ ((read >>= λ more. header_of end more tokens)
-      >>= λ over. laid (layout_of over.header) over.heights)
-  valued (Err fault) v = first_fault end fault tokens
-  valued (Ok more) v = others more
+      valued : (read : Result Header HeightFault) → with_value met name given ≡ read
+          → answer end (read >>= λ more. Ok (at_word more)) tokens
+          ≡ ((read >>= λ more. header_of end more tokens)
+          >>= λ over. laid (layout_of over.header) over.heights)
+      valued (Err fault) v = first_fault end fault tokens
+      valued (Ok more) v = others more
 
 grid_over : (end : ℕ) (met : Header) (word : Token) (tokens : List Token)
     → begins_height word.bytes ≡ true
@@ -150,7 +149,7 @@ grid_over end met word (given ∷ tokens) b = rw b refl
 word_taken : (end : ℕ) (met : Header) (word : Token) (tokens : List Token) (begins : Bool)
     → begins_height word.bytes ≡ begins
     → (begins ≡ false
-        → answer end (Ok (at_word met)) (word ∷ tokens) ≡ grid_after end met (word ∷ tokens))
+    → answer end (Ok (at_word met)) (word ∷ tokens) ≡ grid_after end met (word ∷ tokens))
     → answer end (Ok (at_word met)) (word ∷ tokens) ≡ grid_after end met (word ∷ tokens)
 word_taken end met word tokens false b others = others refl
 word_taken end met word tokens true b others =

@@ -1,7 +1,7 @@
 -- Reading the text of a grid piece by piece, so that no more of it is kept than the heights and one
 -- token.
-use Rattle.std.specs.Prelude.{◌≡◌, ℕ, ◌+◌, ◌==◌, nat_eq, Bool, false, ◌&&◌, List, [], ◌∷◌, length, Option}
-use Rattle.std.specs.Prelude.{Some, None, Result, if◌then◌else◌}
+use Rattle.std.specs.Prelude.{◌≡◌, ℕ, ◌+◌, ◌==◌, nat_eq, Bool, false, ◌&&◌, List, [], ◌∷◌, length}
+use Rattle.std.specs.Prelude.{Option, Some, None, Result, if◌then◌else◌}
 use Rattle.std.specs.List.{starts_with}
 use Rattle.ldp_tokens.specs.Mark.{mark}
 use Rattle.ldp_tokens.specs.Tokens.{is_white}
@@ -52,6 +52,7 @@ grown s token =
     then record { taken = s.taken + 1; sofar = s.sofar; place = s.taken + 1; token = nothing }
     else record { taken = s.taken + 1; sofar = s.sofar; place = s.place; token = token }
 
+-- one more byte of the text
 unfoldable pub byte : State → ℕ → State
 byte s b = if is_white b then white s else grown s (grow s.token b)
 
@@ -64,7 +65,7 @@ go s (b ∷ bs) = go (byte s b) bs
 abbrev pub end : State → Result HeightGrid HeightFault
 end s = and_end (closed s) s.taken
 
--- A reader in pieces is its state, or none once memory was wanting.
+-- a reader in pieces: its state, or none once it is lost for want of memory
 abbrev pub Reader : Type 0
 Reader = Option State
 
@@ -73,6 +74,11 @@ abbrev pub has_started : Reader → Bool
 has_started None = false
 has_started (Some s) = is_started s.sofar
 
+-- how many bytes it took; 0 once it is lost
+abbrev pub bytes_taken : Reader → ℕ
+bytes_taken None = 0
+bytes_taken (Some s) = s.taken
+
 -- the reader was fed this text, in whatever pieces
 abbrev pub Holds : Reader → List ℕ → Type 0
-Holds reader text = (reader ≡ Some (go start text)) × ((go start text).taken ≡ length text)
+Holds reader text = (reader ≡ Some (go start text)) × (bytes_taken reader ≡ length text)

@@ -19,14 +19,13 @@ pub fn whole_texts_are_read()
 /// Two pieces, one after the other, are read as one, and each byte is counted.
 #[tactic(auto, using(crate::proofs::Fed::pieces_joined, crate::proofs::Fed::bytes_counted))]
 pub fn pieces_are_joined()
-    ensures joined { (s : State) (front rest : List ℕ) → go (go s front) rest ≡ go s (front ++ rest) }
+    ensures joined { (s : State) (front rest : List ℕ)
+        → go (go s front) rest ≡ go s (front ++ rest) }
     ensures counted { (s : State) (text : List ℕ) → (go s text).taken ≡ s.taken + length text }
-{
-}
+{}
 
 /// A text that is read in pieces gives the grid of the text, or its first fault.
 #[tactic(auto, using(crate::proofs::Fed::text_fed))]
 pub fn pieces_are_read()
     ensures { (text : List ℕ) → end (go start text) ≡ heights_of text }
-{
-}
+{}

@@ -111,7 +111,8 @@ impl OpenToken {
 /// Writes the byte behind the first `len` ones, where it is among those to keep.
 #[tactic(auto, using(crate::proofs::FirstBytes::kept_under, crate::proofs::FirstBytes::kept_over))]
 fn keep(first: &mut [u8; MOST_KEPT], len: usize, byte: u8)
-    ensures { take (min (len + 1) 65) first.new ≡ kept_first (take (min len 65) first.old) len byte }
+    ensures { take (min (len + 1) 65) first.new
+        ≡ kept_first (take (min len 65) first.old) len byte }
 {
     if len < MOST_KEPT {
         first[len] = byte;

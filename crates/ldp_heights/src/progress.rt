@@ -1,4 +1,4 @@
-ghost use Rattle.std.specs.Prelude.{◌≡◌, ◌*◌, ◌<◌, ◌≤◌, ℤ, length, All, IsTrue, IsOk, OnOk, IfOk, IfErr};
+ghost use Rattle.std.specs.Prelude.{◌≡◌, ◌*◌, ◌≤◌, length, All, IsTrue, IsOk, OnOk, IfOk, IfErr};
 ghost use Rattle.std.specs.Prelude.{◌++◌, ◌∷◌, [], Option, vec_capacity};
 ghost use Rattle.ldp_tokens.specs.Seen.{seen};
 ghost use Rattle.ldp_heights.specs.Grid.{IsHeight};
@@ -36,10 +36,10 @@ impl Model for Progress {
     ghost Value = { SoFar };
 
     ghost view = { λ progress.
-      sofar_seen progress.fault (stage_seen progress.stage progress.heights.items) };
+        sofar_seen progress.fault (stage_seen progress.stage progress.heights.items) };
 
     ghost invariant = { λ progress.
-      Keeps progress.stage progress.heights.items (vec_capacity progress.heights) };
+        Keeps progress.stage progress.heights.items (vec_capacity progress.heights) };
 }
 
 impl Progress {

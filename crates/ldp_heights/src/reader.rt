@@ -1,7 +1,7 @@
-ghost use Rattle.std.specs.Prelude.{◌≡◌, ◌≢◌, ◌+◌, ◌<◌, ◌^◌, ◌++◌, [], ℕ, List, Some, None, option_map, length, IsTrue};
-ghost use Rattle.std.specs.Prelude.{IfSome, IsOk, OnOk, OnErr, IsErr};
+ghost use Rattle.std.specs.Prelude.{◌≡◌, ◌≢◌, ◌+◌, ◌<◌, ◌^◌, ◌++◌, [], ℕ, List, length, option_map};
+ghost use Rattle.std.specs.Prelude.{IsTrue, IfSome, IsOk, OnOk, OnErr, IsErr};
 ghost use Rattle.ldp_heights.specs.Reading.{heights_of};
-ghost use Rattle.ldp_heights.specs.Pieces.{start, go, end, has_started, Holds};
+ghost use Rattle.ldp_heights.specs.Pieces.{start, go, end, has_started, bytes_taken, Holds};
 ghost use Rattle.ldp_heights.specs.Stages.{is_started};
 
 use crate::fault::HeightFault;
@@ -40,8 +40,10 @@ impl HeightReader {
     /// memory the reader is lost, and each later call that can answer `Memory` does.
     #[tactic(auto, using(crate::proofs::Fed::holds_more))]
     pub fn feed(&mut self, piece: &[u8]) -> Result<(), Memory>
-        requires { IfSome self.old (λ s. s.taken + length piece.now < 2 ^ 64) }
+        requires { bytes_taken self.old + length piece.now < 2 ^ 64 }
         ensures state { OnOk result (self.new ≡ option_map (λ s. go s piece.now) self.old) }
+        ensures taken { OnOk result
+            (bytes_taken self.new ≡ bytes_taken self.old + length piece.now) }
         ensures holds { OnOk result ((text : List ℕ)
             → Holds self.old text → Holds self.new (text ++ piece.now)) }
         ensures lost { self.old ≡ None → IsErr result }

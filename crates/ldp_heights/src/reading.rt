@@ -62,6 +62,7 @@ impl Reading {
     pub fn feed(&mut self, piece: &[u8]) -> Result<(), AllocError>
         requires { self.old.taken + length piece.now < 2 ^ 64 }
         ensures taken { OnOk result (self.new ≡ go self.old piece.now) }
+        ensures count { OnOk result (self.new.taken ≡ self.old.taken + length piece.now) }
         ensures started { IsTrue (is_started self.old.sofar) → IsOk result }
     {
         for byte in piece {
