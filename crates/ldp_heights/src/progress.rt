@@ -184,6 +184,7 @@ fn add_height(
         return Err(HeightFault::Trailing(token.place));
     }
     let height = read_height(layout.missing, token)?;
+    // There is room since the header ended, so this takes no memory.
     let _ = heights.push(height);
     Ok(())
 }

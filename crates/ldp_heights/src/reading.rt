@@ -130,13 +130,12 @@ impl Reading {
     }
 
     /// The answer at the end of the text.
-    pub fn finish(self) -> Result<Heights, HeightFault>
+    pub fn finish(mut self) -> Result<Heights, HeightFault>
         ensures exact { result ≢ Err HeightFault.Memory → result ≡ end self }
         ensures started { IsTrue (is_started self.sofar) → result ≡ end self }
     {
-        let mut reading = self;
-        reading.close()?;
-        reading.progress.finish(reading.taken)
+        self.close()?;
+        self.progress.finish(self.taken)
     }
 }
 
