@@ -23,6 +23,7 @@ pub data Stage : Type 0 where
 abbrev pub SoFar : Type 0
 SoFar = Result Stage HeightFault
 
+-- before the first token
 abbrev pub at_start : SoFar
 at_start = Ok (at_word no_words)
 
@@ -61,7 +62,7 @@ with_height layout heights token =
     else (height_of layout.missing token
     >>= λ height. Ok (at_height layout (heights ++ height ∷ [])))
 
--- a token taken in its place
+-- a token, of which this is known, taken in its place
 unfoldable pub taken_at : ℕ → Known → Stage → SoFar
 taken_at place known (at_word met) =
     word_at met (token_at place known) >>= λ word. Ok (at_value met word)
@@ -70,9 +71,11 @@ taken_at place known (at_value met word) =
 taken_at place known (at_height layout heights) =
     with_height layout heights (token_at place known)
 
+-- the header ended after what was read, where this token begins a height
 abbrev pub and_header_left : SoFar → Token → SoFar
 and_header_left sofar token = sofar >>= header_left token
 
+-- a token taken in its place after what was read
 abbrev pub and_taken : SoFar → ℕ → Known → SoFar
 and_taken sofar place known = sofar >>= taken_at place known
 
@@ -92,5 +95,6 @@ ended end (at_word met) = layout_of met >>= λ layout. whole layout []
 ended end (at_value met word) = Err (BadNumber end)
 ended end (at_height layout heights) = whole layout heights
 
+-- the answer where the text ends after what was read
 abbrev pub and_end : SoFar → ℕ → Result HeightGrid HeightFault
 and_end sofar end = sofar >>= ended end

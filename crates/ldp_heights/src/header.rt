@@ -10,10 +10,9 @@ ghost use Rattle.ldp_heights.specs.Seen.{result_seen};
 
 use crate::class::{Class, class_of, is_nan};
 use crate::coordinate::{Coordinate, read_coordinate, read_spacing};
-use crate::count::MOST_PLACES;
 use crate::fault::{HeightFault, Word};
 use crate::header_word::{HeaderWord, header_word};
-use crate::layout::Layout;
+use crate::layout::{Layout, MOST_PLACES};
 use crate::open_token::OpenToken;
 use ldp_tokens::Token;
 

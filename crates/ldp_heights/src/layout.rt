@@ -6,6 +6,9 @@ ghost use Rattle.ldp_heights.specs.Seen.{layout_seen};
 use crate::class::Class;
 use crate::coordinate::Coordinate;
 
+/// The most places of a grid, and so the most rows and columns.
+pub const MOST_PLACES: u32 = 4_000_000;
+
 /// What a whole header says of the grid.
 #[derive(Clone, Copy)]
 pub struct Layout {

@@ -6,7 +6,6 @@
 
 mod class;
 mod coordinate;
-mod count;
 mod fault;
 mod grid;
 mod header;

@@ -7,8 +7,8 @@ ghost use Rattle.ldp_heights.specs.Known.{kept_first};
 ghost use Rattle.ldp_heights.specs.Stages.{known_count};
 ghost use Rattle.ldp_heights.specs.Ranges.{IsCount};
 
-use crate::count::MOST_PLACES;
 use crate::fault::HeightFault;
+use crate::layout::MOST_PLACES;
 use ldp_tokens::Token;
 use std::marker::Model;
 
