@@ -1,4 +1,6 @@
-mod Values
 mod Pairs
-mod Fronts
+mod Tokenwise
+mod KnownTokens
+mod Fed
+mod FirstBytes
 mod Wholes

@@ -2,6 +2,10 @@ pub mod Grid
 pub mod Classes
 pub mod Header
 pub mod Reading
+pub mod Known
+pub mod Stages
+pub mod Pieces
 pub mod Ranges
 pub mod Whole
 pub mod Seen
+pub mod Kept

@@ -1,12 +1,10 @@
 -- What the definitions see of the values that the code holds.
-use Rattle.std.specs.Prelude.{List, [], ◌∷◌, Option, Some, None, option_map, Result, Ok, Err}
-use Rattle.ldp_tokens.specs.Tokens.{Token}
-use Rattle.ldp_tokens.specs.Seen.{seen}
-use Rattle.ldp_tokens.specs.declared.tokens.Token.{Token as HeldToken}
+use Rattle.std.specs.Prelude.{ℤ, List, Option, Some, None, option_map, Result, Ok, Err}
 use Rattle.ldp_heights.specs.Grid.{Coordinate, corner, centre}
 use Rattle.ldp_heights.specs.Classes.{Class, nan, millimetres, too_high, too_low}
 use Rattle.ldp_heights.specs.Header.{Name, ncols, nrows, xllcorner, xllcenter, yllcorner, yllcenter}
 use Rattle.ldp_heights.specs.Header.{cellsize, nodata_value, Header, Layout}
+use Rattle.ldp_heights.specs.Stages.{SoFar, Stage, at_word, at_value, at_height}
 use Rattle.ldp_heights.specs.declared.coordinate.Coordinate.{Coordinate as HeldCoordinate}
 use Rattle.ldp_heights.specs.declared.coordinate.Coordinate.TheVariants.{Corner, Centre}
 use Rattle.ldp_heights.specs.declared.class.Class.{Class as HeldClass}
@@ -15,6 +13,8 @@ use Rattle.ldp_heights.specs.declared.header_word.HeaderWord.{HeaderWord}
 use Rattle.ldp_heights.specs.declared.header_word.HeaderWord.TheVariants as held
 use Rattle.ldp_heights.specs.declared.header.Header.{Header as HeldHeader}
 use Rattle.ldp_heights.specs.declared.layout.Layout.{Layout as HeldLayout}
+use Rattle.ldp_heights.specs.declared.stage.Stage.{Stage as HeldStage}
+use Rattle.ldp_heights.specs.declared.stage.Stage.TheVariants as held_stage
 use Rattle.ldp_heights.specs.declared.fault.HeightFault.{HeightFault}
 
 abbrev pub coordinate_seen : HeldCoordinate → Coordinate
@@ -62,7 +62,12 @@ abbrev pub result_seen : {A B : Type 0} → (A → B) → Result A HeightFault �
 result_seen see (Ok held_value) = Ok (see held_value)
 result_seen see (Err fault) = Err fault
 
--- the tokens from one on that was taken already; none where the text ended
-abbrev pub ahead : Option HeldToken → List Token → List Token
-ahead None rest = []
-ahead (Some token) rest = seen token ∷ rest
+abbrev pub stage_seen : HeldStage → List (Option ℤ) → Stage
+stage_seen (held_stage.Word met) heights = at_word (header_seen met)
+stage_seen (held_stage.Value met word) heights = at_value (header_seen met) (name_seen word)
+stage_seen (held_stage.Height layout) heights = at_height (layout_seen layout) heights
+
+-- what was read so far, unless there was a fault
+abbrev pub sofar_seen : Option HeightFault → Stage → SoFar
+sofar_seen None stage = Ok stage
+sofar_seen (Some fault) stage = Err fault

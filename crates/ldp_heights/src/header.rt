@@ -1,19 +1,20 @@
 ghost use Rattle.std.specs.Prelude.{◌≡◌, IfOk};
-ghost use Rattle.ldp_heights.specs.Header.{begins_height, begins_number, is_met};
-ghost use Rattle.ldp_heights.specs.Header.{word_at, nodata_of, with_value, header_of, no_words};
-ghost use Rattle.ldp_heights.specs.Header.{layout_of, headed};
+ghost use Rattle.ldp_heights.specs.Header.{begins_height, begins_number, is_met, no_words};
+ghost use Rattle.ldp_heights.specs.Header.{word_at, nodata_of, layout_of};
+ghost use Rattle.ldp_heights.specs.Known.{token_at};
+ghost use Rattle.ldp_heights.specs.Stages.{with_known};
 ghost use Rattle.ldp_heights.specs.Ranges.{AreInRange, IsLayout};
 ghost use Rattle.ldp_tokens.specs.Seen.{seen};
-ghost use Rattle.ldp_heights.specs.Seen.{ahead, class_seen, name_seen, header_seen, layout_seen};
+ghost use Rattle.ldp_heights.specs.Seen.{class_seen, name_seen, header_seen, layout_seen};
 ghost use Rattle.ldp_heights.specs.Seen.{result_seen};
 
 use crate::class::{Class, class_of, is_nan};
 use crate::coordinate::{Coordinate, read_coordinate, read_spacing};
-use crate::count::{MOST_PLACES, read_count};
 use crate::fault::{HeightFault, Word};
 use crate::header_word::{HeaderWord, header_word};
-use crate::layout::Layout;
-use ldp_tokens::{Token, Tokens};
+use crate::layout::{Layout, MOST_PLACES};
+use crate::open_token::OpenToken;
+use ldp_tokens::Token;
 
 /// The words met so far, with their values.
 #[derive(Clone, Copy)]
@@ -62,7 +63,7 @@ impl Header {
 
     /// The word that a token is, which was not met before.
     #[tactic(auto, unfolding(crate::specs::Header::word_at))]
-    fn word_at(&self, token: &Token<'_>) -> Result<HeaderWord, HeightFault>
+    pub fn word_at(&self, token: &Token<'_>) -> Result<HeaderWord, HeightFault>
         ensures { result_seen name_seen result ≡ word_at (header_seen self.now) (seen token.now) }
     {
         match header_word(token.bytes) {
@@ -73,45 +74,51 @@ impl Header {
     }
 
     /// The words met, with a value for this one.
-    #[tactic(auto, unfolding(crate::specs::Header::with_value))]
-    fn with_value(&self, word: HeaderWord, token: &Token<'_>) -> Result<Header, HeightFault>
+    #[tactic(auto, unfolding(crate::specs::Stages::with_known, crate::specs::Header::with_value))]
+    pub fn with_value(
+        &self,
+        word: HeaderWord,
+        place: usize,
+        known: &OpenToken,
+    ) -> Result<Header, HeightFault>
         ensures value { result_seen header_seen result
-            ≡ with_value (header_seen self.now) (name_seen word) (seen token.now) }
+            ≡ with_known (header_seen self.now) (name_seen word) place known.now }
         ensures range { AreInRange (header_seen self.now)
             → IfOk result (λ met. AreInRange (header_seen met)) }
     {
         let met = *self;
+        let token = known.token(place);
         match word {
             HeaderWord::Ncols => Ok(Header {
-                ncols: Some(read_count(token)?),
+                ncols: Some(known.count(place)?),
                 ..met
             }),
             HeaderWord::Nrows => Ok(Header {
-                nrows: Some(read_count(token)?),
+                nrows: Some(known.count(place)?),
                 ..met
             }),
             HeaderWord::XllCorner => Ok(Header {
-                x: Some(Coordinate::Corner(read_coordinate(token)?)),
+                x: Some(Coordinate::Corner(read_coordinate(&token)?)),
                 ..met
             }),
             HeaderWord::XllCenter => Ok(Header {
-                x: Some(Coordinate::Centre(read_coordinate(token)?)),
+                x: Some(Coordinate::Centre(read_coordinate(&token)?)),
                 ..met
             }),
             HeaderWord::YllCorner => Ok(Header {
-                y: Some(Coordinate::Corner(read_coordinate(token)?)),
+                y: Some(Coordinate::Corner(read_coordinate(&token)?)),
                 ..met
             }),
             HeaderWord::YllCenter => Ok(Header {
-                y: Some(Coordinate::Centre(read_coordinate(token)?)),
+                y: Some(Coordinate::Centre(read_coordinate(&token)?)),
                 ..met
             }),
             HeaderWord::Cellsize => Ok(Header {
-                cellsize: Some(read_spacing(token)?),
+                cellsize: Some(read_spacing(&token)?),
                 ..met
             }),
             HeaderWord::NodataValue => Ok(Header {
-                nodata: Some(read_nodata(token)?),
+                nodata: Some(read_nodata(&token)?),
                 ..met
             }),
         }
@@ -146,32 +153,6 @@ impl Header {
     }
 }
 
-/// Reads the pairs of a header, up to the token that begins a height, which is answered too, or to
-/// the end.
-#[tactic(auto, unfolding(crate::specs::Header::header_of))]
-pub fn read_header<'a>(
-    tokens: &mut Tokens<'a>,
-    end: usize,
-) -> Result<(Header, Option<Token<'a>>), HeightFault>
-    ensures value { result_seen
-        (λ read. headed (header_seen read.0) (ahead read.1 tokens.new)) result
-        ≡ header_of end no_words tokens.old }
-    ensures range { IfOk result (λ read. AreInRange (header_seen read.0)) }
-{
-    let mut header = Header::empty();
-    while let Some(token) = tokens.next() {
-        if begins_height(token.bytes) {
-            return Ok((header, Some(token)));
-        }
-        let word = header.word_at(&token)?;
-        let Some(value) = tokens.next() else {
-            return Err(HeightFault::BadNumber(end));
-        };
-        header = header.with_value(word, &value)?;
-    }
-    Ok((header, None))
-}
-
 /// The class of a missing height.
 fn read_nodata(token: &Token<'_>) -> Result<Class, HeightFault>
     ensures { result_seen class_seen result ≡ nodata_of (seen token.now) }
@@ -180,7 +161,7 @@ fn read_nodata(token: &Token<'_>) -> Result<Class, HeightFault>
 }
 
 /// Whether a token ends the header.
-fn begins_height(bytes: &[u8]) -> bool
+pub fn begins_height(bytes: &[u8]) -> bool
     ensures { result ≡ begins_height bytes.now }
 {
     begins_number(bytes) || is_nan(bytes)
