@@ -1,5 +1,5 @@
 -- The centres of a row stand at equal distances.
-use Rattle.std.proofs.Common.{◌≡◌, ℕ, ◌+◌, ◌*◌, ◌/◌, ◌≤◌, ◌^◌, ℤ, pos, neg_ℤ, ◌+ℤ◌, ◌≤ℤ◌, arith, ap, sym, ◌∙◌}
+use Rattle.std.proofs.Common.{◌≡◌, ℕ, ◌+◌, ◌*◌, ◌/◌, ◌≤◌, ℤ, pos, neg_ℤ, ◌+ℤ◌, arith, ap, sym, ◌∙◌}
 use Rattle.std.proofs.Common.{◌<◌, Bool, false, List, slice_index_or}
 use Rattle.std.proofs.lemmas.Int.{ints}
 use Rattle.std.proofs.Math.Nat.{add-mul-div_right}
@@ -9,7 +9,7 @@ use Rattle.ldp_heights.specs.Grid.{Coordinate, corner, centre, centre_along, IsC
 use Rattle.ldp_heights.specs.Grid.{HeightGrid, centre_x, centre_y, IsHeightGrid}
 use Rattle.ldp_zone.specs.declared.point.Point.{Point}
 use Rattle.ldp_cells.specs.Cells as cells
-use Rattle.ldp_cells.specs.Rows.{column_centre, IsRow, IsRowOf, AreMarks}
+use Rattle.ldp_cells.specs.Rows.{IsRow, IsRowOf, AreMarks}
 use Rattle.ldp_cells.specs.declared.row.Row.{Row}
 
 halves : (column spacing : ℕ)

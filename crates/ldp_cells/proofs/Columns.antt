@@ -1,13 +1,12 @@
 -- The columns of a row that lie west of where an edge meets its height.
 use Rattle.std.proofs.Common.{◌≡◌, ◌≢◌, ℕ, zero, suc, ◌+◌, ◌-◌, ◌*◌, ◌/◌, ◌<◌, ◌≤◌, min, Bool, true, false}
 use Rattle.std.proofs.Common.{nat_lt, ℤ, pos, negsuc, ◌+ℤ◌, ◌-ℤ◌, ◌*ℤ◌, ◌≤ℤ◌, ◌<ℤ◌, int_lt, int_le, ◌&&◌, unsigned_abs}
-use Rattle.std.proofs.Common.{if◌then◌else◌, arith, refl, ap, sym, subst, ◌∙◌, inl, inr, ◌⊎◌}
+use Rattle.std.proofs.Common.{arith, refl, ap, sym, subst, ◌∙◌, inl, inr, ◌⊎◌}
 use Rattle.std.proofs.lemmas.Bool.{cases_lt, lt-ltb, le-ltb}
 use Rattle.std.proofs.lemmas.Int.{ints, by_lt_z}
 use Rattle.std.proofs.Math.Nat.{le-div_iff_mul-le, div-lt_iff_lt-mul, mul_assoc, mul-le-mul}
 use Rattle.std.proofs.Math.IntN.{suc_ℤ-*ℤ, +ℤ_one, zero-*ℤ, pos-*ℤ-pos, pos-*ℤ-negsuc}
 use Rattle.ldp_zone.specs.Inside.{edge_east, point_east, meets_east, in_box, on_line, on_edge}
-use Rattle.ldp_zone.specs.declared.point.Point.{Point}
 use Rattle.ldp_zone.specs.declared.edge.Edge.{Edge}
 use Rattle.ldp_cells.specs.Rows.{column_centre, gap}
 use Rattle.ldp_cells.specs.declared.row.Row.{Row}
@@ -217,10 +216,10 @@ apart row edge rise level is =
     by_lt_z edge.start.y edge.end.y
     (λ h. apart_rising row edge rise h (omega (arith, ints)))
     (λ h.
-      let some : 0 < rise = omega (arith, ints) in
-      let one : suc (rise - 1) ≡ rise = omega arith in
-      let down : edge.end.y -ℤ edge.start.y ≡ negsuc (rise - 1) = omega (arith, ints) in
-      ap_step row edge one (apart_falling row edge (rise - 1) h down))
+    let some : 0 < rise = omega (arith, ints) in
+    let one : suc (rise - 1) ≡ rise = omega arith in
+    let down : edge.end.y -ℤ edge.start.y ≡ negsuc (rise - 1) = omega (arith, ints) in
+    ap_step row edge one (apart_falling row edge (rise - 1) h down))
 
 nat_lt_self : (n : ℕ) → nat_lt n n ≡ false
 nat_lt_self n = le-ltb n n (omega arith)
@@ -243,7 +242,7 @@ only_by column west low high (inr h) (inr l) = omega arith
 
 pub only_west : (row : Row) (edge : Edge) (step west : ℕ) → 1 ≤ step → StepsApart row edge step
     → ((column : ℕ) → column < row.cols
-      → nat_lt column west ≡ meets_east (column_centre row column) edge)
+    → nat_lt column west ≡ meets_east (column_centre row column) edge)
     → (column : ℕ) → column < row.cols
     → on_edge (column_centre row column) edge ≡ true
     → column ≡ west
@@ -255,8 +254,8 @@ only_west row edge step west some steps is column within on =
     (is column within ∙ steps.meets column ∙ ap (int_lt (pos (column * step))) (sym here)
     ∙ nat_lt_self (column * step))
     (λ less. is west (omega arith) ∙ steps.meets west
-      ∙ ap (int_lt (pos (west * step))) (sym here)
-      ∙ lt-ltb (west * step) (column * step) (product_below west column step some less))
+    ∙ ap (int_lt (pos (west * step))) (sym here)
+    ∙ lt-ltb (west * step) (column * step) (product_below west column step some less))
     (cases_lt west column) (cases_lt column west)
 
 pub some_step : (row : Row) (edge : Edge) → 1 ≤ row.spacing → edge.start.y ≢ edge.end.y

@@ -1,13 +1,13 @@
 -- What one edge more does to a row.
-use Rattle.std.proofs.Common.{◌≡◌, ◌≢◌, ℕ, ◌+◌, ◌*◌, ◌<◌, ◌≤◌, Bool, true, false, cond, not, ◌&&◌, ◌||◌}
-use Rattle.std.proofs.Common.{nat_lt, nat_le, ℤ, pos, ◌+ℤ◌, ◌-ℤ◌, ◌*ℤ◌, ◌≤ℤ◌, ◌<ℤ◌, int_lt, int_le}
+use Rattle.std.proofs.Common.{◌≡◌, ℕ, ◌+◌, ◌*◌, ◌<◌, ◌≤◌, Bool, true, false, cond, not, ◌&&◌, ◌||◌}
+use Rattle.std.proofs.Common.{nat_lt, nat_le, ℤ, pos, ◌+ℤ◌, ◌-ℤ◌, int_lt, int_le}
 use Rattle.std.proofs.Common.{List, [], ◌∷◌, ◌++◌, length, take, slice_index_or, count_by, max}
 use Rattle.std.proofs.Common.{arith, refl, ap, sym, ◌∙◌}
 use Rattle.std.proofs.Common.{◌%◌, ◌==◌, IsPermutation}
 use Rattle.std.specs.Int.{int_min, int_max}
 use Rattle.std.specs.List.{list_any}
 use Rattle.std.proofs.lemmas.Bool.Decides.{nat_tests}
-use Rattle.std.proofs.lemmas.Int.{ints, clamps, by_lt_z}
+use Rattle.std.proofs.lemmas.Int.{ints}
 use Rattle.std.proofs.lemmas.List.Sums.{sum_by_push, sum_by_more}
 use Rattle.std.proofs.lemmas.List.Folds.{list_any_more}
 use Rattle.std.proofs.lemmas.List.Sorted.{sum_by-IsPermutation}
@@ -105,13 +105,13 @@ level_on at edge start end =
 pub edge_along : (row : Row) (edge : Edge) (old new : Filling) (first end : ℕ)
     → edge.start.y ≡ row.y → edge.end.y ≡ row.y
     → ((column : ℕ) → column < row.cols → nat_lt column first
-      ≡ int_lt (pos (column * row.spacing)) (int_min edge.start.x edge.end.x -ℤ row.x))
+    ≡ int_lt (pos (column * row.spacing)) (int_min edge.start.x edge.end.x -ℤ row.x))
     → ((column : ℕ) → column < row.cols → nat_lt column end
-      ≡ int_lt (pos (column * row.spacing)) ((int_max edge.start.x edge.end.x -ℤ row.x) +ℤ pos 1))
+    ≡ int_lt (pos (column * row.spacing)) ((int_max edge.start.x edge.end.x -ℤ row.x) +ℤ pos 1))
     → length new.marks ≡ length old.marks
     → new.crossings ≡ old.crossings
     → ((column : ℕ) → column < row.cols → slice_index_or new.marks column false
-      ≡ (slice_index_or old.marks column false || (nat_le first column && nat_lt column end)))
+    ≡ (slice_index_or old.marks column false || (nat_le first column && nat_lt column end)))
     → TakesEdge row edge old new
 edge_along row edge old new first end start_y end_y west east each same marks = record {
   each = each;
@@ -129,7 +129,7 @@ edge_along row edge old new first end start_y end_y west east each same marks = 
       marks column within
       ∙ ap (λ t. slice_index_or old.marks column false || (t && nat_lt column end)) before
       ∙ ap (λ t. slice_index_or old.marks column false
-        || (int_le (int_min a b) (row.x +ℤ pos n) && t)) behind
+      || (int_le (int_min a b) (row.x +ℤ pos n) && t)) behind
       ∙ ap (λ t. slice_index_or old.marks column false || t)
       (box_by a b (row.x +ℤ pos n) ∙ sym (level_on at edge start_y end_y));
 }
@@ -144,7 +144,7 @@ push_by column west crossings b e =
 
 pub edge_crossing : (row : Row) (edge : Edge) (west : ℕ) (old : List ℕ)
     → ((column : ℕ) → column < row.cols
-      → nat_lt column west ≡ meets_east (column_centre row column) edge)
+    → nat_lt column west ≡ meets_east (column_centre row column) edge)
     → spans (column_centre row 0) edge ≡ true
     → (column : ℕ) → column < row.cols
     → crossings_beyond column (old ++ west ∷ [])
@@ -164,12 +164,12 @@ edge_not_crossing row edge old over column within =
 -- an edge whose crossing and whose marks were taken
 pub edge_taken : (row : Row) (edge : Edge) (old mid new : Filling) → mid.marks ≡ old.marks
     → ((column : ℕ) → column < row.cols → crossings_beyond column mid.crossings
-      ≡ crossings_beyond column old.crossings
-      + cond (crosses (column_centre row column) edge) 1 0)
+    ≡ crossings_beyond column old.crossings
+    + cond (crosses (column_centre row column) edge) 1 0)
     → length new.marks ≡ length mid.marks
     → new.crossings ≡ mid.crossings
     → ((column : ℕ) → column < row.cols → slice_index_or new.marks column false
-      ≡ (slice_index_or mid.marks column false || on_edge (column_centre row column) edge))
+    ≡ (slice_index_or mid.marks column false || on_edge (column_centre row column) edge))
     → TakesEdge row edge old new
 edge_taken row edge old mid new kept counted each same marks = record {
   each = each ∙ ap length kept;
@@ -178,7 +178,7 @@ edge_taken row edge old mid new kept counted each same marks = record {
   marks = λ column within.
       marks column within
       ∙ ap (λ (m : List Bool). slice_index_or m column false
-        || on_edge (column_centre row column) edge) kept;
+      || on_edge (column_centre row column) edge) kept;
 }
 
 -- the columns before a distance, with another step and distance that are the same
@@ -233,7 +233,7 @@ pub marked_columns : (old new : Bool) (first end last column : ℕ) → first �
     → new ≡ (old || (nat_le first column && nat_lt column end))
 marked_columns old new first end last column low high most e =
     let same : (nat_le first column && nat_lt column last)
-      ≡ (nat_le first column && nat_lt column end) = grind (arith, nat_tests) in
+    ≡ (nat_le first column && nat_lt column end) = grind (arith, nat_tests) in
     e ∙ ap (λ t. old || t) same
 
 -- the row is filled
@@ -242,7 +242,7 @@ pub filled : (row : Row) (edges : List Edge) (held : Filling) (sorted : List ℕ
     → IsPermutation held.crossings sorted
     → length marks ≡ length held.marks
     → ((column : ℕ) → column < length held.marks → slice_index_or marks column false
-      ≡ (slice_index_or held.marks column false || (crossings_beyond column sorted % 2 == 1)))
+    ≡ (slice_index_or held.marks column false || (crossings_beyond column sorted % 2 == 1)))
     → AreMarks (inside_of edges) row marks
 unfolding inside_of
 filled row edges held sorted marks holds moved each swept = record {

@@ -1,9 +1,9 @@
 -- The places of a grid, one after the other.
-use Rattle.std.proofs.Common.{◌≡◌, ℕ, suc, ◌+◌, ◌-◌, ◌*◌, ◌/◌, ◌%◌, ◌<◌, ◌≤◌, Bool, true, false, ◌&&◌}
+use Rattle.std.proofs.Common.{◌≡◌, ℕ, suc, ◌+◌, ◌-◌, ◌*◌, ◌<◌, ◌≤◌, Bool, true, false}
 use Rattle.std.proofs.Common.{List, [], ◌∷◌, ◌++◌, length, filter, filter_map, Option, Some, None, ℤ}
-use Rattle.std.proofs.Common.{is_none, option_map, nat_lt, nat_le, Result, Ok, Err, if◌then◌else◌}
+use Rattle.std.proofs.Common.{nat_lt, Ok, Err, if◌then◌else◌}
 use Rattle.std.proofs.Common.{refl, ap, sym, ◌∙◌, arith, append_assoc, append-nil}
-use Rattle.std.specs.List.{range_with_len, cons_option}
+use Rattle.std.specs.List.{cons_option}
 use Rattle.std.proofs.lemmas.Bool.{lt-ltb, le-leb, lt-leb}
 use Rattle.std.proofs.lemmas.Nat.{div-mul-add, mod-mul-add, rows}
 use Rattle.ldp_heights.specs.Grid.{HeightGrid, place_height}
@@ -13,7 +13,6 @@ use Rattle.ldp_cells.specs.Cells.{cells_among, gaps_among, cells_where, CellList
 use Rattle.ldp_cells.specs.Tallies.{Tally, places_from, cells_from, gaps_from, IsTally}
 use Rattle.ldp_cells.specs.Tallies.{with_height, with_place}
 use Rattle.ldp_cells.specs.declared.cell.Cell.{Cell}
-use Rattle.ldp_cells.specs.declared.fault.CellsFault.{CellsFault}
 use Rattle.ldp_cells.specs.declared.fault.CellsFault.TheVariants.{TooManyCells}
 
 places_next : (place count : ℕ) → place < count

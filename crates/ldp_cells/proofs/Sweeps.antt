@@ -1,7 +1,7 @@
 -- The crossings beyond a column, in a list of crossings in order.
 use Rattle.std.proofs.Common.{◌≡◌, ℕ, suc, ◌+◌, ◌-◌, ◌%◌, ◌<◌, ◌≤◌, ◌==◌, Bool, true, false, cond, ◌||◌}
 use Rattle.std.proofs.Common.{nat_lt, List, [], ◌∷◌, length, take, drop, slice_index_or, slice_index}
-use Rattle.std.proofs.Common.{sum_by, count_by, arith, refl, ap, sym, ◌∙◌}
+use Rattle.std.proofs.Common.{arith, refl, ◌∙◌}
 use Rattle.std.proofs.lemmas.Bool.{lt-ltb, le-ltb}
 use Rattle.std.proofs.Common.{◌≢◌, slice_set, below_more, get_or-set_other, get_or-set_same}
 use Rattle.std.proofs.lemmas.List.{length-drop, get_or-drop, get_or-take, length-take-le}
@@ -32,7 +32,7 @@ all_beyond column (crossing ∷ crossings) far =
 
 pub beyond_passed : (column passed : ℕ) (crossings : List ℕ)
     → ((i j : ℕ) (d : ℕ) → i ≤ j → j < length crossings
-      → slice_index_or crossings i d ≤ slice_index_or crossings j d)
+    → slice_index_or crossings i d ≤ slice_index_or crossings j d)
     → passed ≤ length crossings
     → ((k : ℕ) → k < passed → slice_index crossings k ≤ column)
     → (passed < length crossings → column < slice_index crossings passed)
@@ -42,14 +42,14 @@ beyond_passed column passed crossings sorted few before behind =
     let front = take passed crossings in
     let back = drop passed crossings in
     let none = none_beyond column front (λ k h.
-      let short = length-take-le passed crossings few in
-      let at : k < passed = omega arith in
-      rw (get_or-take passed crossings k 0 at) (before k at)) in
+    let short = length-take-le passed crossings few in
+    let at : k < passed = omega arith in
+    rw (get_or-take passed crossings k 0 at) (before k at)) in
     let all = all_beyond column back (λ k h.
-      let long = length-drop passed crossings in
-      let here : passed + k < length crossings = omega arith in
-      rw (get_or-drop passed crossings k 0)
-      (omega (arith, behind (omega arith), sorted passed (passed + k) 0 (omega arith) here))) in
+    let long = length-drop passed crossings in
+    let here : passed + k < length crossings = omega arith in
+    rw (get_or-drop passed crossings k 0)
+    (omega (arith, behind (omega arith), sorted passed (passed + k) 0 (omega arith) here))) in
     omega (arith, sum_by-take-drop f crossings passed, none, all, length-drop passed crossings)
 
 or_true : (b : Bool) → true ≡ (b || true)
@@ -78,8 +78,8 @@ pub swept_more : (crossings : List ℕ) (old marks : List Bool) (column beyond :
 swept_more crossings old marks column beyond within count swept odd = record {
   done = below_more _ _
       (λ k h.
-        let other : k ≢ column = omega arith in
-        rw (get_or-set_other marks column k true false other) (swept.done k h))
+      let other : k ≢ column = omega arith in
+      rw (get_or-set_other marks column k true false other) (swept.done k h))
       (rw (get_or-set_same marks column true false within, count, odd)
       (or_true (slice_index_or old column false)));
   rest = λ k h.

@@ -144,7 +144,7 @@ impl Scanline {
         ensures marks { (other : ℕ) → other < row.now.cols
             → slice_index_or self.new.marks other false
             ≡ (slice_index_or self.old.marks other false
-              || on_edge (column_centre row.now other) edge.now) }
+            || on_edge (column_centre row.now other) edge.now) }
     {
         if column < row.cols && edge.holds(&row.centre(column)) {
             self.marks[column as usize] = true;
@@ -159,7 +159,7 @@ impl Scanline {
         ensures marks { (column : ℕ) → column < length self.old.marks
             → slice_index_or self.new.marks column false
             ≡ (slice_index_or self.old.marks column false
-              || (nat_le first column && nat_lt column end)) }
+            || (nat_le first column && nat_lt column end)) }
     {
         for column in first..end {
             self.marks[column as usize] = true;

@@ -9,7 +9,7 @@ pub fn sweep(crossings: &[u32], marks: &mut [bool])
     ensures { (column : ℕ) → column < length marks.old
         → slice_index_or marks.new column false
         ≡ (slice_index_or marks.old column false
-          || (crossings_beyond column crossings.now % 2 == 1)) }
+        || (crossings_beyond column crossings.now % 2 == 1)) }
 {
     let mut passed = 0;
     for column in 0..marks.len() {

@@ -55,7 +55,12 @@ impl Tally {
     }
 
     /// Takes the marked columns of a row.
-    pub fn take_row(&mut self, heights: &Heights, row: u32, marks: &[bool]) -> Result<(), AllocError>
+    pub fn take_row(
+        &mut self,
+        heights: &Heights,
+        row: u32,
+        marks: &[bool],
+    ) -> Result<(), AllocError>
         requires row { row < heights.now.rows }
         requires each { length marks.now ≡ heights.now.cols }
         requires near { (column : ℕ) → column < heights.now.cols
@@ -64,7 +69,7 @@ impl Tally {
         ensures few { OnOk result (self.new.count + self.new.missing ≤ (row + 1) * heights.now.cols) }
         ensures tally { OnOk result ((test : Point → Bool)
             → ((column : ℕ) → column < heights.now.cols
-              → slice_index_or marks.now column false ≡ test (centre heights.now row column))
+            → slice_index_or marks.now column false ≡ test (centre heights.now row column))
             → IsTally test heights.now (row * heights.now.cols) self.old
             → IsTally test heights.now ((row + 1) * heights.now.cols) self.new) }
     {
@@ -105,7 +110,11 @@ impl Tally {
         if self.count > MOST_CELLS {
             return Err(CellsFault::TooManyCells(self.count));
         }
-        let Tally { cells, count: _, missing } = self;
+        let Tally {
+            cells,
+            count: _,
+            missing,
+        } = self;
         Ok(Cells::new(cells, missing))
     }
 }

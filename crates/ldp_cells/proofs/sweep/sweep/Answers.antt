@@ -1,4 +1,4 @@
-use Rattle.std.proofs.Common.{◌≡◌, ◌-◌, ◌%◌, ◌<◌, length, arith}
+use Rattle.std.proofs.Common.{◌-◌, length, arith}
 use Rattle.ldp_cells.proofs.Sweeps.{beyond_passed, swept_more, swept_same}
 use Rattle.ldp_cells.proofs.sweep.sweep.Goals as goal
 use Rattle.ldp_cells.proofs.sweep.sweep.Goals.{then-crossings-passed-eq1, else-crossings-passed-eq1}

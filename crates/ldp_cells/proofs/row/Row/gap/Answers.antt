@@ -1,5 +1,4 @@
-use Rattle.std.proofs.Common.{◌≡◌, ◌-ℤ◌, ◌<ℤ◌, ◌≤ℤ◌, ℤ, arith, sym, ◌∙◌, ap}
-use Rattle.std.specs.Int.{w128}
+use Rattle.std.proofs.Common.{arith, ◌∙◌, ap}
 use Rattle.std.proofs.lemmas.Int.{ints}
 use Rattle.ldp_zone.specs.Inside.{edge_east, point_east}
 use Rattle.ldp_zone.specs.declared.point.Point.{Point}

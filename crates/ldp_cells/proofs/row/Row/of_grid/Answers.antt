@@ -1,7 +1,6 @@
-use Rattle.std.proofs.Common.{◌≡◌, to_z, of_z, ◌∙◌, arith}
+use Rattle.std.proofs.Common.{◌≡◌, to_z, of_z, arith}
 use Rattle.std.specs.Int.{w128}
 use Rattle.std.proofs.lemmas.Int.{ints}
-use Rattle.ldp_heights.specs.Grid.{centre_x, centre_y}
 use Rattle.ldp_cells.specs.declared.row.Row.{Row}
 use Rattle.ldp_cells.proofs.Centres.{row_of, row_in_range}
 use Rattle.ldp_cells.proofs.row.Row.of_grid.Goals as goal

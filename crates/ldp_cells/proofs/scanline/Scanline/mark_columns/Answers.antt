@@ -1,4 +1,4 @@
-use Rattle.std.proofs.Common.{ℕ, ◌<◌, ◌||◌, ◌&&◌, nat_le, nat_lt, false, slice_index_or}
+use Rattle.std.proofs.Common.{◌||◌, ◌&&◌, nat_le, nat_lt, false, slice_index_or}
 use Rattle.std.proofs.Common.{arith, ap, ◌∙◌}
 use Rattle.ldp_cells.specs.Rows.{Filling}
 use Rattle.ldp_cells.proofs.Filling.{marked_columns}
@@ -13,4 +13,4 @@ returns-clause-marks c = λ column within.
     last column (omega arith) (omega arith) (omega arith)
     (c.loop-column.invariant.marks column within
     ∙ ap (λ (f : Filling). slice_index_or f.marks column false
-      || (nat_le first column && nat_lt column last)) c.self.view_is)
+    || (nat_le first column && nat_lt column last)) c.self.view_is)

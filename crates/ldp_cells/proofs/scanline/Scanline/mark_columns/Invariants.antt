@@ -9,5 +9,5 @@ invariant-loop-column l = record {
   marks : (column : ℕ) → column < length l.fn.self.marks
       → slice_index_or l.self-inside.marks.items column false
       ≡ (slice_index_or l.initial.self-inside.marks.items column false
-        || (nat_le l.first column && nat_lt column l.column));
+      || (nat_le l.first column && nat_lt column l.column));
 }

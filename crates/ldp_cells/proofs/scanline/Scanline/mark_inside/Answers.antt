@@ -1,5 +1,5 @@
-use Rattle.std.proofs.Common.{◌≡◌, ℕ, ◌<◌, ◌≤◌, List, Bool, length, drop, slice_index_or, subst, sym, ap}
-use Rattle.std.proofs.Common.{◌∙◌, arith}
+use Rattle.std.proofs.Common.{◌≡◌, length, drop, subst, sym, ap}
+use Rattle.std.proofs.Common.{◌∙◌}
 use Rattle.std.proofs.lemmas.List.{take_at}
 use Rattle.std.proofs.lemmas.List.Sorted.{IsNonDecreasingBy-from_sort}
 use Rattle.ldp_cells.specs.Rows.{Filling, HoldsEdges}
@@ -11,7 +11,7 @@ sweep-requires c =
     let sorted = IsNonDecreasingBy-from_sort (λ x. x) c.sort_unstable.new.self.items
     c.sort_unstable.ensures.sorted in
     λ i j d below within. rw c.deref.ensures.value
-      (sorted i j d below (rw (← c.deref.ensures.value) within))
+    (sorted i j d below (rw (← c.deref.ensures.value) within))
 
 pub returns : goal.returns
 returns c =

@@ -1,4 +1,4 @@
-use Rattle.std.proofs.Common.{◌≡◌, ◌∙◌, sym, ap}
+use Rattle.std.proofs.Common.{◌∙◌, sym, ap}
 use Rattle.ldp_zone.specs.Inside.{between}
 use Rattle.ldp_zone.specs.declared.point.Point.{Point}
 use Rattle.ldp_cells.proofs.Filling.{edge_aside}

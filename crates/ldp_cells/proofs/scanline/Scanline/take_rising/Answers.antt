@@ -1,4 +1,4 @@
-use Rattle.std.proofs.Common.{◌≡◌, ◌+◌, ◌*◌, ◌-ℤ◌, ◌++◌, ◌∷◌, [], List, ℕ, Bool, unsigned_abs, refl}
+use Rattle.std.proofs.Common.{◌≡◌, ◌*◌, ◌-ℤ◌, ◌++◌, ◌∷◌, [], List, ℕ, Bool, unsigned_abs, refl}
 use Rattle.std.proofs.Common.{sym, ap, ◌∙◌}
 use Rattle.ldp_zone.specs.Inside.{spans}
 use Rattle.ldp_zone.specs.declared.point.Point.{Point}
@@ -39,12 +39,12 @@ returns c =
           ∙ ap (λ (f : Filling). f.crossings ++ west ∷ []) c.self.view_is in
           edge_taken row edge old mid new kept
           (λ column within. rw items (edge_crossing row edge west old.crossings
-            c.columns_west-west.ensures.value (spanned ∙ w.if-spans.true) column within))
+          c.columns_west-west.ensures.value (spanned ∙ w.if-spans.true) column within))
           held.each held.crossings held.marks
       | else-spans w ↦
           let kept = ap marks_of (w.self-is) in
           edge_taken row edge old mid new kept
           (λ column within. rw (ap crossings_of w.self-is)
-            (edge_not_crossing row edge old.crossings (spanned ∙ w.if-spans.false) column within))
+          (edge_not_crossing row edge old.crossings (spanned ∙ w.if-spans.false) column within))
           held.each held.crossings held.marks
     ]

@@ -1,4 +1,4 @@
-use Rattle.std.proofs.Common.{◌≡◌, ℕ, Result, Err, ap, ◌∙◌, arith}
+use Rattle.std.proofs.Common.{ℕ, Result, Err, ap, ◌∙◌, arith}
 use Rattle.ldp_cells.specs.Cells.{CellList}
 use Rattle.ldp_cells.specs.Tallies.{Tally}
 use Rattle.ldp_cells.specs.declared.fault.CellsFault.{CellsFault}

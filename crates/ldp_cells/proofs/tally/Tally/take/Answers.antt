@@ -19,11 +19,21 @@ invariant_of-self-in-Some c =
       | then-self-lt-MOST_CELLS+in_ok-push-in-Some w ↦
           let cell : Cell = cell_with grid c.args.row c.args.col mm in
           let x : to_z w128 (of_z w128 w.centre-x.result.0) ≡ centre_x grid c.args.col =
-          omega (arith, ints, w.centre-x.ensures.x, w.centre-x.ensures.x_range.0,
-            w.centre-x.ensures.x_range.1) in
+          omega (
+            arith,
+            ints,
+            w.centre-x.ensures.x,
+            w.centre-x.ensures.x_range.0,
+            w.centre-x.ensures.x_range.1,
+          ) in
           let y : to_z w128 (of_z w128 w.centre-x.result.1) ≡ centre_y grid c.args.row =
-          omega (arith, ints, w.centre-x.ensures.y, w.centre-x.ensures.y_range.0,
-            w.centre-x.ensures.y_range.1) in
+          omega (
+            arith,
+            ints,
+            w.centre-x.ensures.y,
+            w.centre-x.ensures.y_range.0,
+            w.centre-x.ensures.y_range.1,
+          ) in
           let height : to_z w32 (of_z w32 mm) ≡ mm = omega (arith, ints, range.0, range.1) in
           let items = simp (x, y, height) at w.in_ok-push-in-Some.ensures.items in
           rw (w.self-inside-is, items)

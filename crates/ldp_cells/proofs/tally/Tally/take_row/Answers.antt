@@ -1,4 +1,4 @@
-use Rattle.std.proofs.Common.{◌≡◌, ℕ, ◌+◌, ◌*◌, ◌≤◌, true, false, subst, sym, ◌∙◌, arith}
+use Rattle.std.proofs.Common.{◌≡◌, ◌+◌, ◌*◌, ◌≤◌, subst, sym, ◌∙◌, arith}
 use Rattle.ldp_cells.specs.Tallies.{Tally, IsTally}
 use Rattle.ldp_cells.proofs.Places.{place_taken, place_skipped}
 use Rattle.ldp_cells.proofs.Tallied.{place_counted}

@@ -9,7 +9,7 @@ invariant-loop-column l = record {
   few : l.self.count + l.self.missing ≤ l.row * l.heights.cols + l.column;
   tally : (test : Point → Bool)
       → ((column : ℕ) → column < l.heights.cols
-        → slice_index_or l.marks column false ≡ test (centre l.heights l.row column))
+      → slice_index_or l.marks column false ≡ test (centre l.heights l.row column))
       → IsTally test l.heights (l.row * l.heights.cols) l.initial.self
       → IsTally test l.heights (l.row * l.heights.cols + l.column) l.self;
 }
