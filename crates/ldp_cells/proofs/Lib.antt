@@ -1,2 +1,8 @@
 mod Rows
+mod Columns
+mod Centres
+mod Filling
+mod Sweeps
 mod Places
+mod Tallied
+mod Outlines

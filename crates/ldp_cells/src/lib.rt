@@ -5,8 +5,12 @@
 mod cell;
 mod choose;
 mod fault;
-mod place;
+mod outline;
 mod region;
+mod row;
+mod scanline;
+mod sweep;
+mod tally;
 
 pub use cell::{Cell, Cells};
 pub use choose::{area_cells, zone_cells};

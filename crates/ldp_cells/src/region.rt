@@ -1,46 +1,45 @@
-ghost use Rattle.std.specs.Prelude.{◌≡◌, IsTrue};
-ghost use Rattle.ldp_zone.specs.Area.{IsNear, IsPlace};
-ghost use Rattle.ldp_cells.specs.Cells.{in_zone, in_area};
-ghost use Rattle.ldp_cells.specs.Tests.{test_of};
+ghost use Rattle.std.specs.Prelude.{◌≡◌, length, OnOk};
+ghost use Rattle.ldp_cells.specs.Cells.{in_area};
+ghost use Rattle.ldp_cells.specs.Rows.{IsRow, AreMarks};
+ghost use Rattle.ldp_cells.specs.Tests.{test_of, HasEdges};
 
+use crate::row::Row;
+use crate::scanline::Scanline;
 use ldp_quantity::{EASTMOST_LONGITUDE, HIGHEST_LATITUDE, LOWEST_LATITUDE, WESTMOST_LONGITUDE};
-use ldp_zone::{Point, Zone};
+use ldp_zone::{Edge, Point};
+use std::alloc::AllocError;
 
 /// Where cells are sought: in a zone, or in the area of all zones.
-#[derive(Clone, Copy)]
-pub enum Region<'a> {
-    Zone(&'a Zone),
+#[derive(Drop)]
+pub enum Region {
+    /// The edges of all rings of a zone.
+    Edges(Vec<Edge>),
     /// Longitude -180 to 360 and latitude -80 to 80 degrees.
     Area,
 }
 
-impl Region<'_> {
-    /// Whether a point lies in the region.
-    pub fn has(&self, at: &Point) -> bool
-        requires { IsPlace at.now }
-        ensures value { result ≡ test_of self.now at.now }
-        ensures near { IsTrue result → IsNear at.now }
+impl Region {
+    /// Marks the columns whose centre lies in the region.
+    pub fn mark(&self, row: &Row, line: &mut Scanline) -> Result<(), AllocError>
+        requires edges { HasEdges self.now }
+        requires row { IsRow row.now }
+        requires each { length line.old.marks ≡ row.now.cols }
+        ensures { OnOk result (AreMarks (test_of self.now) row.now line.new.marks) }
     {
         match self {
-            Region::Zone(zone) => zone_has(zone, at),
-            Region::Area => area_has(at),
+            Region::Edges(edges) => line.mark_inside(row, edges),
+            Region::Area => {
+                line.mark_area(row);
+                Ok(())
+            }
         }
     }
 }
 
-#[tactic(auto, unfolding(crate::specs::Cells::in_zone))]
-fn zone_has(zone: &Zone, at: &Point) -> bool
-    requires { IsPlace at.now }
-    ensures value { result ≡ in_zone zone.now at.now }
-    ensures near { IsTrue result → IsNear at.now }
-{
-    zone.has(at.x, at.y)
-}
-
+/// Whether a point lies in the area.
 #[tactic(auto, unfolding(crate::specs::Cells::in_area))]
-fn area_has(at: &Point) -> bool
-    ensures value { result ≡ in_area at.now }
-    ensures near { IsTrue result → IsNear at.now }
+pub fn area_has(at: &Point) -> bool
+    ensures { result ≡ in_area at.now }
 {
     WESTMOST_LONGITUDE <= at.x
         && at.x <= EASTMOST_LONGITUDE

@@ -2,7 +2,7 @@ ghost use Rattle.std.specs.Prelude.{◌≡◌, ◌<◌, ◌≤◌, ◌*◌, neg_
 ghost use Rattle.ldp_quantity.specs.Between.{IsBetween};
 ghost use Rattle.ldp_quantity.specs.Quantity.{degrees};
 ghost use Rattle.ldp_heights.specs.Grid.{place_height, centre_x, centre_y, most_places};
-ghost use Rattle.ldp_heights.specs.Grid.{IsHeight, IsHeightGrid};
+ghost use Rattle.ldp_heights.specs.Grid.{IsHeight, IsHeightGrid, IsSpacing};
 ghost use Rattle.ldp_heights.specs.Ranges.{IsLayout};
 ghost use Rattle.ldp_heights.specs.Reading.{grid_with};
 ghost use Rattle.ldp_heights.specs.Seen.{layout_seen};
@@ -81,6 +81,14 @@ impl Heights {
         ensures keeps { IsHeightGrid self.now }
     {
         self.cols
+    }
+
+    /// From one column or row to the next, in 10^-12 degrees.
+    pub fn spacing(&self) -> u64
+        ensures value { result ≡ self.now.spacing }
+        ensures range { IsSpacing result }
+    {
+        self.spacing
     }
 
     /// The height of a place in millimetres, or None where it is missing; row 0 is the north row.

@@ -3,6 +3,7 @@ mod Walks
 mod Rings
 mod Sides
 mod Outside
+pub mod Within
 mod TokensLeft
 mod Phrases
 mod Resumed

@@ -114,7 +114,7 @@ walk_append at odd (edge ∷ front) rest =
     (walk_append at (flip (crosses at edge) odd) front rest)
 
 -- one ring more
-ring_passed : (at : Point) (odd more : Bool) (ring : List Point) (rings : List (List Point))
+pub ring_passed : (at : Point) (odd more : Bool) (ring : List Point) (rings : List (List Point))
     → walk at odd (ring_edges ring) ≡ Crossing more
     → walk at odd (edges (ring ∷ rings)) ≡ walk at more (edges rings)
 ring_passed at odd more ring rings e = walk_append at odd (ring_edges ring) (edges rings)

@@ -81,7 +81,8 @@ impl Edge {
         (self.start.x <= at.x && at.x <= self.end.x) || (self.end.x <= at.x && at.x <= self.start.x)
     }
 
-    fn in_height(&self, at: &Point) -> bool
+    /// Whether the height of a point lies between those of the edge's ends, or is one of them.
+    pub fn in_height(&self, at: &Point) -> bool
         ensures { result ≡ between self.now.start.y self.now.end.y at.now.y }
     {
         (self.start.y <= at.y && at.y <= self.end.y) || (self.end.y <= at.y && at.y <= self.start.y)

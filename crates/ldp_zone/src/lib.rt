@@ -7,6 +7,7 @@
 mod coordinates;
 mod edge;
 mod fault;
+pub mod laws;
 mod point;
 mod product;
 mod read;
