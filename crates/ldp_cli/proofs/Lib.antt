@@ -1,3 +1,4 @@
 mod Writes
 mod Taken
 mod Upgraded
+mod Designed

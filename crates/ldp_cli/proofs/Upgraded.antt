@@ -15,38 +15,37 @@ use Rattle.ldp_answer.specs.declared.answer.Answer.{Answer}
 use Rattle.ldp_answer.proofs.Upgrades.{upgraded_are_accepted}
 use Rattle.ldp_cli.specs.Readings.{job_read}
 use Rattle.ldp_cli.specs.Files.{Gives}
-use Rattle.ldp_cli.specs.ProblemFiles.{problem_read}
+use Rattle.ldp_cli.specs.ProblemFiles.{ProblemRequest, problem_read}
 use Rattle.ldp_cli.specs.Certificate.{JobRequest, certificate_read, HaveSameFiles}
 use Rattle.ldp_cli.specs.Check.{IsUpgraded}
 use Rattle.ldp_cli.specs.declared.certificate.Certificate.{Certificate}
 
-bind_ok : {A B : Type 0} (first : Result A Refusal) (next : A → Result B Refusal) (b : B)
+pub bind_ok : {A B : Type 0} (first : Result A Refusal) (next : A → Result B Refusal) (b : B)
     → (first >>= next) ≡ Ok b → (a : A) × (first ≡ Ok a) × (next a ≡ Ok b)
 bind_ok (Ok a) next b e = (a, refl, e)
 bind_ok (Err refusal) next b e = absurd cc
 
 -- a job in a short text
-short_read : (text : List ℕ) (j : Job) → length text ≤ 128_000_000 → job text ≡ Ok j
+pub short_read : (text : List ℕ) (j : Job) → length text ≤ 128_000_000 → job text ≡ Ok j
     → job_read text ≡ Ok j
 short_read text j short e =
     let yes : nat_le (length text) 128_000_000 ≡ true = grind (arith, nat_tests) in
     rw (yes, e) refl
 
-same_problem : (asked again : JobRequest) (files later : Files)
-    → HaveSameFiles asked files again later
-    → problem_read again.problem later ≡ problem_read asked.problem files
+pub same_problem : (asked again : ProblemRequest) (files later : Files)
+    → HaveSameFiles asked files again later → problem_read again later ≡ problem_read asked files
 same_problem asked again files later same = rw (same.zone, same.heights, same.grids) refl
 
 -- the same files with another job
 read_again : (asked again : JobRequest) (files later : Files) (read : Certificate) (j : Job)
-    → certificate_read asked files ≡ Ok read → HaveSameFiles asked files again later
-    → job_read (later again.job) ≡ Ok j
+    → certificate_read asked files ≡ Ok read
+    → HaveSameFiles asked.problem files again.problem later → job_read (later again.job) ≡ Ok j
     → certificate_read again later ≡ Ok record read { job = j }
 read_again asked again files later read j e same is =
     let problem = bind_ok (problem_read asked.problem files) _ read e in
     let first = bind_ok (job_read (files asked.job)) _ read problem.2 in
     let list = bind_ok (cells_read problem.0.zone problem.0.heights) _ read first.2 in
-    rw (same_problem asked again files later same, problem.1, is, list.1)
+    rw (same_problem asked.problem again.problem files later same, problem.1, is, list.1)
     (ap (λ r. ap_job j r) list.2)
   where
     ap_job : Job → Result Certificate Refusal → Result Certificate Refusal

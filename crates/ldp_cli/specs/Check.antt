@@ -26,7 +26,7 @@ upgrade_answer asked files = do
 pub record IsUpgraded (asked : JobRequest) (files : Files) : Type 0 where
   pub text : List ℕ
   pub is_printed : upgrade_answer asked files ≡ Ok record { rejected = false; text = text }
-  pub is_kept : (again : JobRequest) (later : Files) → HaveSameFiles asked files again later
-      → later again.job ≡ text
+  pub is_kept : (again : JobRequest) (later : Files)
+      → HaveSameFiles asked.problem files again.problem later → later again.job ≡ text
       → (check_answer again later ≡ Ok (check_text Accepted))
       × (upgrade_answer again later ≡ Ok record { rejected = false; text = text })

@@ -9,14 +9,16 @@ use Rattle.ldp_cli.specs.Files.{Asked, ServesFrom}
 use Rattle.ldp_cli.specs.Eval.{eval_request, eval_files, eval_answer}
 use Rattle.ldp_cli.specs.Certificate.{job_request, job_files, IsShown}
 use Rattle.ldp_cli.specs.Check.{check_answer, upgrade_answer, IsUpgraded}
+use Rattle.ldp_cli.specs.Design.{design_request, design_files, design_answer, IsFound}
 use Rattle.ldp_cli.specs.declared.commands.Request.{Request}
-use Rattle.ldp_cli.specs.declared.commands.Request.TheVariants.{Eval, Check, Upgrade}
+use Rattle.ldp_cli.specs.declared.commands.Request.TheVariants.{Eval, Design, Check, Upgrade}
 
 -- the request of a command's name and the words after it
 abbrev pub request_named : List ℕ → List (List ℕ) → Option Request
 request_named name words =
     if bytes_eq name (codes "eval") then option_map Eval (eval_request words)
     else if bytes_eq name (codes "check") then option_map Check (job_request words)
+    else if bytes_eq name (codes "design") then option_map Design (design_request words)
     else if bytes_eq name (codes "upgrade") then option_map Upgrade (job_request words)
     else None
 
@@ -28,12 +30,14 @@ request (name ∷ words) = request_named name words
 -- the files of a request, in the order of its words
 abbrev pub files_of : Request → List Asked
 files_of (Eval asked) = eval_files asked
+files_of (Design asked) = design_files asked
 files_of (Check asked) = job_files asked
 files_of (Upgrade asked) = job_files asked
 
 -- what a request answers, or why it is refused
 abbrev pub answer_to : Request → Files → Result Answer Refusal
 answer_to (Eval asked) files = eval_answer asked files
+answer_to (Design asked) files = design_answer asked files
 answer_to (Check asked) files = check_answer asked files
 answer_to (Upgrade asked) files = upgrade_answer asked files
 
@@ -41,6 +45,7 @@ answer_to (Upgrade asked) files = upgrade_answer asked files
 abbrev pub Shows : Option Request → Files → Type 0
 Shows None files = Unit {0}
 Shows (Some (Eval asked)) files = Unit {0}
+Shows (Some (Design asked)) files = IsFound asked files
 Shows (Some (Check asked)) files = IsShown asked files
 Shows (Some (Upgrade asked)) files = IsUpgraded asked files
 

@@ -7,6 +7,7 @@ pub mod ProblemFiles
 pub mod Eval
 pub mod Certificate
 pub mod Check
+pub mod Limits
+pub mod Design
 pub mod Commands
 pub mod Ending
-pub mod Limits

@@ -4,6 +4,7 @@ ghost use Rattle.ldp_cli.specs.Commands.{request, request_named, files_of, answe
 
 use crate::certificate::{JobWords, job_words};
 use crate::check::{check, upgrade};
+use crate::design::{DesignWords, design, design_words};
 use crate::eval::{EvalWords, eval, eval_words};
 use crate::stop::Stop;
 use ldp_answer::Answer;
@@ -14,6 +15,7 @@ use std::alloc::Global;
 #[derive(Drop)]
 pub enum Request<'a> {
     Eval(EvalWords<'a>),
+    Design(DesignWords<'a>),
     Check(JobWords<'a>),
     Upgrade(JobWords<'a>),
 }
@@ -38,6 +40,9 @@ fn request_named<'a>(name: &str, words: &'a [String]) -> Option<Request<'a>>
     if name == "check" {
         return Some(Request::Check(job_words(words)?));
     }
+    if name == "design" {
+        return Some(Request::Design(design_words(words)?));
+    }
     if name == "upgrade" {
         return Some(Request::Upgrade(job_words(words)?));
     }
@@ -56,6 +61,7 @@ pub fn answer<H: Shelf>(alloc: Global, shelf: &mut H, request: &Request<'_>) -> 
 {
     match request {
         Request::Eval(words) => eval(alloc, shelf, words),
+        Request::Design(words) => design(alloc, shelf, words),
         Request::Check(words) => check(alloc, shelf, words),
         Request::Upgrade(words) => upgrade(alloc, shelf, words),
     }

@@ -4,6 +4,7 @@
 mod certificate;
 mod check;
 mod commands;
+mod design;
 mod ending;
 mod eval;
 mod hashed;
