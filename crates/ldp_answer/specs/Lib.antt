@@ -5,4 +5,7 @@ pub mod EvalText
 pub mod Eval
 pub mod Rejection
 pub mod Check
+pub mod JobDesign
+pub mod Wkt
+pub mod Table
 pub mod Laws

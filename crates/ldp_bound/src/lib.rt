@@ -9,4 +9,5 @@ mod sets;
 mod tally;
 
 pub use ldp_problem::{Bound, Bounds, Cost, Pair};
+pub use lists::family_lists;
 pub use std::alloc::AllocError as Memory;
