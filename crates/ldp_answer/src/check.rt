@@ -1,16 +1,20 @@
-ghost use Rattle.std.specs.Prelude.{◌≡◌, ◌<◌, false, length, IfOk, Ok};
-ghost use Rattle.ldp_job.specs.Values.{IsJob};
+ghost use Rattle.std.specs.Prelude.{◌≡◌, ◌<◌, false, pos, unsigned_abs, length, option_map};
+ghost use Rattle.std.specs.Prelude.{IfSome, IfOk, Ok};
+ghost use Rattle.ldp_bound.specs.Plain.{IsTolerance};
+ghost use Rattle.ldp_job.specs.Values.{IsShare, IsJob};
 ghost use Rattle.ldp_check.specs.Verdicts.{IsProved};
-ghost use Rattle.ldp_answer.specs.Check.{job_problem, verdict_over, check_text, check_over};
+ghost use Rattle.ldp_answer.specs.Check.{tolerance_of, job_problem, verdict_over};
+ghost use Rattle.ldp_answer.specs.Check.{check_text, check_over};
 
 use crate::answer::Answer;
 use crate::rejection::rejection;
+use ldp_bound::Plain;
 use ldp_cells::Cells;
-use ldp_check::Verdict;
+use ldp_check::{Verdict, check};
 use ldp_decimal::{Memory, Text};
 use ldp_design::Grids;
-use ldp_job::{Job, Names};
-use std::alloc::{AllocError, Global};
+use ldp_job::{Job, Names, Share};
+use std::alloc::Global;
 
 /// What `check` prints: whether a job is accepted over the cells of a zone, and if not, why.
 pub fn check_over(
@@ -60,5 +64,20 @@ pub fn verdict_over(
     ensures proved { result ≡ Ok Verdict.Accepted
         → IsProved (job_problem cells.now grids.now job.now) job.now }
 {
-    Err(AllocError)
+    let mut bounds = Plain::new(alloc, grids, cells, tolerance_of(&job.share))?;
+    check(alloc, &mut bounds, grids, cells, names, job)
+}
+
+/// The tolerance of a job, in units of 10^-15.
+fn tolerance_of(share: &Option<Share>) -> Option<i128>
+    requires { IfSome share.now IsShare }
+    ensures value { option_map unsigned_abs result ≡ tolerance_of share.now }
+    ensures same { option_map pos (tolerance_of share.now)
+        ≡ option_map (λ share. share.tolerance) share.now }
+    ensures range { IfSome result IsTolerance }
+{
+    match share {
+        None => None,
+        Some(share) => Some(share.tolerance),
+    }
 }

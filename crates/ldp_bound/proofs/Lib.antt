@@ -2,3 +2,8 @@ mod Tallies
 mod Families
 mod Runs
 mod Carriers
+mod Sound
+mod Cells
+mod Kepts
+mod Loops
+mod Told

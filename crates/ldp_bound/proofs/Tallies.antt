@@ -86,11 +86,11 @@ with_greater tolerance values value cell over tally counts greater count is =
     let tops : value ≡ largest (values ++ value ∷ []) = omega (arith, largest_push values value) in
     same_tally over _ value _ cell _ overs tops (sym (first_rises values value most ∙ count))
 
-pub with_lesser : (tolerance : Option ℕ) (values : List ℕ) (value cell over : ℕ) (tally : Tally)
-    → over ≡ tally.over + counted tolerance value → value ≤ tally.value → length values ≡ cell → tally ≡ tally_of tolerance values
+pub with_lesser : (tolerance : Option ℕ) (values : List ℕ) (value over : ℕ) (tally : Tally)
+    → over ≡ tally.over + counted tolerance value → value ≤ tally.value → tally ≡ tally_of tolerance values
     → ◌≡◌ {A = Tally} (record { over = over; value = tally.value; cell = tally.cell }) (tally_of tolerance (values ++ value ∷ []))
 unfolding tally_of
-with_lesser tolerance values value cell over tally counts lesser count is =
+with_lesser tolerance values value over tally counts lesser is =
     let top : tally.value ≡ largest values = ap (λ (t : Tally). t.value) is in
     let most : value ≤ largest values = omega arith in
     let overs : over ≡ beyond tolerance (values ++ value ∷ []) =

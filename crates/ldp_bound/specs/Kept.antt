@@ -1,10 +1,13 @@
 -- What a bounder keeps of cells: for each kind that some family has, the results of its cell list.
-use Rattle.std.specs.Prelude.{◌≡◌, ℕ, Bool, true, false, ◌&&◌, ℤ, List, length, slice_get, Option, None, Some, option_map, option_and_then, unsigned_abs, if◌then◌else◌}
+use Rattle.std.specs.Prelude.{◌≡◌, ◌≤◌, ℕ, Bool, true, false, ℤ, List, length, take, slice_get, Option, None, Some, option_map, option_and_then, unsigned_abs, if◌then◌else◌}
 use Rattle.std.specs.List.{list_any}
+use Rattle.ldp_num.specs.Steps.{most_steps}
+use Rattle.ldp_num.specs.declared.fix.Fix.{Fix}
 use Rattle.ldp_num.specs.Written.{Ops, number_ops, range_ops}
 use Rattle.ldp_cells.specs.declared.cell.Cell.{Cell}
 use Rattle.ldp_distortion.specs.Distortion.{distortion_in}
-use Rattle.ldp_distortion.specs.Prepared.{PreparedCells, prepared}
+use Rattle.ldp_distortion.specs.Prepared.{PreparedCells, HasRoom, prepared, joined_at}
+use Rattle.ldp_distortion.specs.Inputs.{numbers}
 use Rattle.ldp_design.specs.declared.family.Family.{Family}
 use Rattle.ldp_design.specs.declared.family.Kind.{Kind}
 use Rattle.ldp_design.specs.declared.family.Kind.TheVariants.{Tm, Lambert, Hotine, Lambert2}
@@ -87,3 +90,29 @@ kept_problem families kinds count tolerance = record {
 pub record HasCells (count : ℕ) (kinds : PreparedKinds) : Type 0 where
   pub full : (kind : Kind) (south : Bool) (p : PreparedCells)
       → set_at kinds kind south ≡ Some p → length p.results ≡ count
+
+-- cells prepared for lists that a bench of so many places and so many inputs have room for
+pub record IsReady (count : ℕ) (p : PreparedCells) : Type 0 where
+  pub full : length p.results ≡ count
+  pub room : HasRoom p.lists most_steps
+  pub inputs : p.lists.joint.inputs ≤ 16
+
+-- from the results of the design list: the absolute value of the distortion at a cell, and the
+-- least one in its range
+abbrev pub size_from : PreparedCells → List ℤ → ℕ → Option ℕ
+size_from p design cell = option_map unsigned_abs (joined_at number_ops p design cell)
+
+abbrev pub low_from : PreparedCells → List (ℤ × ℤ) → ℕ → ℕ
+low_from p design cell = least_size (joined_at range_ops p design cell)
+
+-- the results of the design list of a design, and those of a box, where they are defined; they tell
+-- the distortion at every cell
+pub record TellsDesign (families : List Family) (kinds : PreparedKinds) (d : Design)
+    (p : PreparedCells) (inputs : List Fix) : Type 0 where
+  pub sizes : kept_delta families kinds d
+      ≡ size_from p (numbers (take (length p.lists.design.outs) inputs))
+
+pub record TellsBox (families : List Family) (kinds : PreparedKinds) (b : DesignBox)
+    (p : PreparedCells) (inputs : List (ℤ × ℤ)) : Type 0 where
+  pub lows : kept_lower families kinds b
+      ≡ low_from p (take (length p.lists.design.outs) inputs)

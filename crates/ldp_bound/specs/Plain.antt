@@ -1,6 +1,6 @@
 -- The problem of families of designs over cells, where the distortion of a box is bounded by its
 -- range alone.
-use Rattle.std.specs.Prelude.{ℕ, ℤ, List, [], ◌∷◌, length, slice_get, Option, None, Some, option_map, option_and_then, unsigned_abs}
+use Rattle.std.specs.Prelude.{ℕ, ℤ, pos, ◌≤ℤ◌, List, [], ◌∷◌, length, slice_get, Option, None, Some, option_map, option_and_then, unsigned_abs}
 use Rattle.ldp_num.specs.Written.{Ops, number_ops, range_ops}
 use Rattle.ldp_range.specs.Range.{pair_low_abs}
 use Rattle.ldp_cells.specs.declared.cell.Cell.{Cell}
@@ -59,6 +59,11 @@ least_size (Some range) = unsigned_abs (pair_low_abs range)
 
 abbrev pub lower_at : List Family → List Cell → DesignBox → ℕ → ℕ
 lower_at families cells b i = least_size (range_at families cells b i)
+
+-- from 0 to 10^15
+pub record IsTolerance (tolerance : ℤ) : Type 0 where
+  pub low : pos 0 ≤ℤ tolerance
+  pub high : tolerance ≤ℤ pos 1_000_000_000_000_000
 
 -- the problem over these families and cells
 abbrev pub plain_problem : List Family → List Cell → Option ℕ → Problem

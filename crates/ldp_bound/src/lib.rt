@@ -3,11 +3,18 @@
 #![tactic(auto)]
 
 mod inputs;
+mod kept;
 mod kinds;
 mod lists;
+mod lows;
+mod plain;
 mod sets;
+mod single;
+mod sizes;
 mod tally;
+mod tolerance;
 
 pub use ldp_problem::{Bound, Bounds, Cost, Pair};
 pub use lists::family_lists;
+pub use plain::Plain;
 pub use std::alloc::AllocError as Memory;

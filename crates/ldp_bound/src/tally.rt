@@ -1,5 +1,8 @@
-ghost use Rattle.std.specs.Prelude.{◌≡◌, ◌<◌, ◌≤◌, ◌+◌, ◌-◌, ◌^◌, ◌++◌, ◌∷◌, [], ℕ, List, Option, length};
+ghost use Rattle.std.specs.Prelude.{◌≡◌, ◌<◌, ◌≤◌, ◌+◌, ◌-◌, ◌^◌, ◌++◌, ◌∷◌, [], ℕ, List, Option, length, max, pos};
+ghost use Rattle.ldp_num.specs.Number.{limit};
 ghost use Rattle.ldp_bound.specs.Tally.{tally_of, counted};
+
+use ldp_problem::{Bound, Cost};
 
 /// What is told of the values at the cells so far: how many are beyond the tolerance, the largest,
 /// in units of 10^-15, and the first cell that has it.
@@ -16,6 +19,7 @@ impl Tally {
     pub fn none() -> Tally
         ensures value { (tolerance : Option ℕ) → result ≡ tally_of tolerance [] }
         ensures over { result.over ≡ 0 }
+        ensures zero { result.value ≡ 0 }
     {
         Tally {
             over: 0,
@@ -31,6 +35,7 @@ impl Tally {
             → self ≡ tally_of tolerance values
             → result ≡ tally_of tolerance (values ++ value ∷ []) }
         ensures over { result.over ≤ self.over + 1 }
+        ensures most { result.value ≤ max self.value value }
     {
         let over = over_with(self.over, tolerance, value);
         if value > self.value {
@@ -42,6 +47,37 @@ impl Tally {
             cell: self.cell,
         }
     }
+
+    /// As the bound of a box.
+    pub fn bound(self) -> Bound
+        requires { self.value ≤ limit }
+        ensures { result ≡ Bound.Low self.over (pos self.value) self.cell }
+    {
+        Bound::Low {
+            over: self.over,
+            value: signed(self.value),
+            cell: self.cell,
+        }
+    }
+
+    /// As the cost of a design.
+    pub fn cost(self) -> Cost
+        requires { self.value ≤ limit }
+        ensures { result ≡ Cost.Is self.over (pos self.value) self.cell }
+    {
+        Cost::Is {
+            over: self.over,
+            value: signed(self.value),
+            cell: self.cell,
+        }
+    }
+}
+
+pub(crate) fn signed(value: u128) -> i128
+    requires { value ≤ limit }
+    ensures { result ≡ pos value }
+{
+    value as i128
 }
 
 fn over_with(over: u32, tolerance: Option<u64>, value: u128) -> u32

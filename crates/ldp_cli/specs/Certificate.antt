@@ -38,6 +38,13 @@ certificate_read asked files = do
   list ← cells_read problem.zone problem.heights
   Ok record { cells = list; grids = problem.grids; names = problem.names; job = job }
 
+-- two requests ask for a job over the same zone, heights and design grids
+pub record HaveSameFiles (asked : JobRequest) (files : Files) (again : JobRequest) (later : Files)
+    : Type 0 where
+  pub zone : later again.problem.zone ≡ files asked.problem.zone
+  pub heights : later again.problem.heights ≡ files asked.problem.heights
+  pub grids : later again.problem.grids ≡ files asked.problem.grids
+
 -- the job's design is admissible and usable, its cost is the printed one, and no usable admissible
 -- design has a smaller cost
 pub record IsShown (asked : JobRequest) (files : Files) : Type 0 where

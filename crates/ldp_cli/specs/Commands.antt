@@ -8,7 +8,7 @@ use Rattle.ldp_message.specs.declared.refusal.Refusal.{Refusal}
 use Rattle.ldp_cli.specs.Files.{Asked, ServesFrom}
 use Rattle.ldp_cli.specs.Eval.{eval_request, eval_files, eval_answer}
 use Rattle.ldp_cli.specs.Certificate.{job_request, job_files, IsShown}
-use Rattle.ldp_cli.specs.Check.{check_answer, upgrade_answer}
+use Rattle.ldp_cli.specs.Check.{check_answer, upgrade_answer, IsUpgraded}
 use Rattle.ldp_cli.specs.declared.commands.Request.{Request}
 use Rattle.ldp_cli.specs.declared.commands.Request.TheVariants.{Eval, Check, Upgrade}
 
@@ -42,7 +42,7 @@ abbrev pub Shows : Option Request → Files → Type 0
 Shows None files = Unit {0}
 Shows (Some (Eval asked)) files = Unit {0}
 Shows (Some (Check asked)) files = IsShown asked files
-Shows (Some (Upgrade asked)) files = Unit {0}
+Shows (Some (Upgrade asked)) files = IsUpgraded asked files
 
 -- the files of a list of words: none where it is in no form
 abbrev pub asked_in : Option Request → List Asked

@@ -1,7 +1,7 @@
 ghost use Rattle.std.specs.Prelude.{◌≡◌, false, IfErr, IfOk, IfSome};
 ghost use Rattle.ldp_cli.specs.Files.{ServesFrom, Gives, StopsIn};
 ghost use Rattle.ldp_cli.specs.Certificate.{job_files, IsShown};
-ghost use Rattle.ldp_cli.specs.Check.{check_answer, upgrade_answer};
+ghost use Rattle.ldp_cli.specs.Check.{check_answer, upgrade_answer, IsUpgraded};
 
 use crate::certificate::{Certificate, JobWords, take_certificate};
 use crate::stop::Stop;
@@ -30,6 +30,8 @@ pub fn upgrade<H: Shelf>(alloc: Global, shelf: &mut H, words: &JobWords<'_>) -> 
         Gives result (upgrade_answer words.now files)) }
     ensures stops { IfErr result (λ stop. StopsIn (job_files words.now) stop
         (H.faults shelf.old) (H.faults shelf.new) (H.files shelf.old)) }
+    ensures upgraded { IfOk result (λ answer. answer.rejected ≡ false
+        → IfSome (H.files shelf.old) (λ files. IsUpgraded words.now files)) }
 {
     let Certificate {
         cells,

@@ -10,5 +10,5 @@ returns-then-value-self-clause-value c =
 pub returns-clause-value : goal.returns-clause-value
 returns-clause-value c =
     λ values count is.
-    with_lesser c.args.tolerance values c.args.value c.args.cell c.over_with-over.result c.args.self c.over_with-over.ensures
-    c.if-value-self.false count is
+    with_lesser c.args.tolerance values c.args.value c.over_with-over.result c.args.self c.over_with-over.ensures
+    c.if-value-self.false is

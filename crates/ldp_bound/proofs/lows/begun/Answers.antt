@@ -1,0 +1,22 @@
+use Rattle.std.proofs.Common.{ap, sym, ◌∙◌}
+use Rattle.ldp_bound.proofs.Kepts.{no_set_low, undefined_low, lows_tell}
+use Rattle.ldp_bound.proofs.lows.begun.Goals as goal
+
+pub returns-in_err-prepared-clause-none : goal.returns-in_err-prepared-clause-none
+returns-in_err-prepared-clause-none c =
+    rw c.from_residual.ensures
+    (no_set_low c.args.kept.now.grids c.args.kept.now.kinds c.args.b.now c.requires.lies.family c.requires.lies.found
+    c.in_err-prepared.ensures.set)
+
+pub returns-then-not-put_box-clause-none : goal.returns-then-not-put_box-clause-none
+returns-then-not-put_box-clause-none c =
+    λ cell.
+    undefined_low c.args.kept.now.grids c.args.kept.now.kinds c.args.b.now c.requires.lies.family c.in_ok-prepared.prepared.now
+    c.inputs_of.result.0 c.inputs_of.result.1 c.requires.lies.found c.in_ok-prepared.ensures.set c.inputs_of.ensures.value
+    c.if-not-put_box.ensures.value cell
+
+pub returns-clause-tells : goal.returns-clause-tells
+returns-clause-tells c =
+    lows_tell c.args.kept.now.grids c.args.kept.now.kinds c.args.b.now c.requires.lies.family c.in_ok-prepared.prepared.now
+    c.inputs_of.result.0 c.inputs_of.result.1 c.put_box.new.inputs c.requires.lies.found c.in_ok-prepared.ensures.set c.inputs_of.ensures.value
+    c.if-not-put_box.ensures.value

@@ -1,0 +1,112 @@
+ghost use Rattle.std.specs.Prelude.{◌≡◌, ◌≤◌, ◌<◌, length, take, ℕ, IfSome, IfNone};
+ghost use Rattle.ldp_num.specs.Steps.{most_steps};
+ghost use Rattle.ldp_num.specs.Number.{limit};
+ghost use Rattle.ldp_design.specs.Boxes.{LiesIn};
+ghost use Rattle.ldp_problem.specs.Costs.{at_cells};
+ghost use Rattle.ldp_bound.specs.Kept.{kept_lower, low_from, IsReady, TellsBox};
+ghost use Rattle.ldp_bound.specs.Tally.{tally_of};
+
+use crate::inputs::{MOST_INPUTS, joined_at, put_box};
+use crate::kept::Kept;
+use crate::tally::Tally;
+use ldp_design::{DesignBox, inputs_of};
+use ldp_distortion::Prepared;
+use ldp_num::Bench;
+use ldp_range::{Range, sharp};
+
+/// The least absolute distortion of a box at a cell, in units of 10^-15; 0 where it is undefined.
+pub(crate) fn low(kept: &Kept, bench: &mut Bench<Range>, b: &DesignBox, cell: u32) -> u128
+    requires lies { LiesIn kept.now.grids b.now }
+    requires room { bench.old.room ≡ most_steps }
+    requires cell { cell < kept.now.count }
+    ensures value { result ≡ kept_lower kept.now.grids kept.now.kinds b.now cell }
+    ensures small { result ≤ limit }
+    ensures room { bench.new.room ≡ bench.old.room }
+{
+    let mut inputs = [sharp(0); MOST_INPUTS];
+    let Some(prepared) = begun(kept, bench, b, &mut inputs) else {
+        return 0;
+    };
+    low_at(prepared, bench, &mut inputs, cell)
+}
+
+/// What is told of the least absolute distortions of a box at all cells. Runs the design list once.
+pub(crate) fn lows(kept: &Kept, bench: &mut Bench<Range>, b: &DesignBox) -> Tally
+    requires lies { LiesIn kept.now.grids b.now }
+    requires room { bench.old.room ≡ most_steps }
+    ensures value { result ≡ tally_of kept.now.tolerance
+        (at_cells (kept_lower kept.now.grids kept.now.kinds b.now) kept.now.count) }
+    ensures small { result.value ≤ limit }
+    ensures room { bench.new.room ≡ bench.old.room }
+{
+    let mut inputs = [sharp(0); MOST_INPUTS];
+    let Some(prepared) = begun(kept, bench, b, &mut inputs) else {
+        return Tally::none();
+    };
+    told(kept, prepared, bench, &mut inputs)
+}
+
+/// Runs the design list of a box into the first of the joint list's inputs. None: it is undefined,
+/// and so is the range of the distortion at every cell.
+fn begun<'a>(
+    kept: &'a Kept,
+    bench: &mut Bench<Range>,
+    b: &DesignBox,
+    inputs: &mut [Range],
+) -> Option<&'a Prepared>
+    requires lies { LiesIn kept.now.grids b.now }
+    requires room { bench.old.room ≡ most_steps }
+    requires inputs { 16 ≤ length inputs.old }
+    ensures none { IfNone result
+        ((cell : ℕ) → kept_lower kept.now.grids kept.now.kinds b.now cell ≡ 0) }
+    ensures tells { IfSome result
+        (λ p. TellsBox kept.now.grids kept.now.kinds b.now p.now inputs.new) }
+    ensures ready { IfSome result (λ p. IsReady kept.now.count p.now) }
+    ensures room { bench.new.room ≡ bench.old.room }
+{
+    let prepared = kept.set(b.family)?;
+    let (low, high) = inputs_of(&kept.grids, b);
+    if !put_box(prepared, bench, &low, &high, inputs) {
+        return None;
+    }
+    Some(prepared)
+}
+
+/// The least absolute distortion at a cell, where the first of the inputs are the results of the
+/// design list.
+fn low_at(prepared: &Prepared, bench: &mut Bench<Range>, inputs: &mut [Range], cell: u32) -> u128
+    requires ready { IsReady (length prepared.now.results) prepared.now }
+    requires room { bench.old.room ≡ most_steps }
+    requires inputs { 16 ≤ length inputs.old }
+    requires cell { cell < length prepared.now.results }
+    ensures value { result ≡ low_from prepared.now
+        (take (length prepared.now.lists.design.outs) inputs.old) cell }
+    ensures small { result ≤ limit }
+    ensures kept { take (length prepared.now.lists.design.outs) inputs.new
+        ≡ take (length prepared.now.lists.design.outs) inputs.old }
+    ensures room { bench.new.room ≡ bench.old.room }
+{
+    match joined_at(prepared, bench, inputs, cell) {
+        Some(range) => range.low_abs().unsigned_abs(),
+        None => 0,
+    }
+}
+
+/// What is told of them at all cells.
+fn told(kept: &Kept, prepared: &Prepared, bench: &mut Bench<Range>, inputs: &mut [Range]) -> Tally
+    requires ready { IsReady kept.now.count prepared.now }
+    requires room { bench.old.room ≡ most_steps }
+    requires inputs { 16 ≤ length inputs.old }
+    ensures value { result ≡ tally_of kept.now.tolerance
+        (at_cells (low_from prepared.now
+        (take (length prepared.now.lists.design.outs) inputs.old)) kept.now.count) }
+    ensures small { result.value ≤ limit }
+    ensures room { bench.new.room ≡ bench.old.room }
+{
+    let mut tally = Tally::none();
+    for cell in 0..kept.count {
+        let low = low_at(prepared, bench, inputs, cell);
+        tally = tally.with(kept.tolerance, cell, low);
+    }
+    tally
+}

@@ -1,0 +1,114 @@
+ghost use Rattle.std.specs.Prelude.{◌≡◌, ◌≤◌, ◌<◌, length, take, ℕ, None, IfSome, IfNone};
+ghost use Rattle.ldp_num.specs.Steps.{most_steps};
+ghost use Rattle.ldp_num.specs.Number.{limit};
+ghost use Rattle.ldp_distortion.specs.Inputs.{numbers};
+ghost use Rattle.ldp_design.specs.Designs.{IsAdmitted};
+ghost use Rattle.ldp_bound.specs.Kept.{kept_delta, size_from, IsReady, TellsDesign};
+ghost use Rattle.ldp_bound.specs.Tally.{cost_over};
+
+use crate::inputs::{MOST_INPUTS, joined_at, put_design};
+use crate::kept::Kept;
+use crate::tally::Tally;
+use ldp_design::{Design, inputs_at};
+use ldp_distortion::Prepared;
+use ldp_num::{Bench, Fix};
+use ldp_problem::Cost;
+
+/// The absolute distortion of a design at a cell, in units of 10^-15.
+pub(crate) fn size(kept: &Kept, bench: &mut Bench<Fix>, d: &Design, cell: u32) -> Option<u128>
+    requires admitted { IsAdmitted kept.now.grids d.now }
+    requires room { bench.old.room ≡ most_steps }
+    requires cell { cell < kept.now.count }
+    ensures value { result ≡ kept_delta kept.now.grids kept.now.kinds d.now cell }
+    ensures room { bench.new.room ≡ bench.old.room }
+{
+    let mut inputs = [Fix { n: 0 }; MOST_INPUTS];
+    let prepared = begun(kept, bench, d, &mut inputs)?;
+    size_at(prepared, bench, &mut inputs, cell)
+}
+
+/// The cost of a design over all cells. Runs the design list once.
+pub(crate) fn cost(kept: &Kept, bench: &mut Bench<Fix>, d: &Design) -> Cost
+    requires admitted { IsAdmitted kept.now.grids d.now }
+    requires room { bench.old.room ≡ most_steps }
+    ensures value { result ≡ cost_over kept.now.tolerance
+        (kept_delta kept.now.grids kept.now.kinds d.now) kept.now.count }
+    ensures room { bench.new.room ≡ bench.old.room }
+{
+    let mut inputs = [Fix { n: 0 }; MOST_INPUTS];
+    let Some(prepared) = begun(kept, bench, d, &mut inputs) else {
+        return Cost::Unusable { cell: 0 };
+    };
+    told(kept, prepared, bench, &mut inputs)
+}
+
+/// Runs the design list of a design into the first of the joint list's inputs. None: it is
+/// undefined, and so is the distortion at every cell.
+fn begun<'a>(
+    kept: &'a Kept,
+    bench: &mut Bench<Fix>,
+    d: &Design,
+    inputs: &mut [Fix],
+) -> Option<&'a Prepared>
+    requires admitted { IsAdmitted kept.now.grids d.now }
+    requires room { bench.old.room ≡ most_steps }
+    requires inputs { 16 ≤ length inputs.old }
+    ensures none { IfNone result
+        ((cell : ℕ) → kept_delta kept.now.grids kept.now.kinds d.now cell ≡ None) }
+    ensures tells { IfSome result
+        (λ p. TellsDesign kept.now.grids kept.now.kinds d.now p.now inputs.new) }
+    ensures ready { IfSome result (λ p. IsReady kept.now.count p.now) }
+    ensures room { bench.new.room ≡ bench.old.room }
+{
+    let prepared = kept.set(d.family)?;
+    let at = inputs_at(&kept.grids, d);
+    if !put_design(prepared, bench, &at, inputs) {
+        return None;
+    }
+    Some(prepared)
+}
+
+/// The absolute distortion at a cell, where the first of the inputs are the results of the design
+/// list.
+fn size_at(
+    prepared: &Prepared,
+    bench: &mut Bench<Fix>,
+    inputs: &mut [Fix],
+    cell: u32,
+) -> Option<u128>
+    requires ready { IsReady (length prepared.now.results) prepared.now }
+    requires room { bench.old.room ≡ most_steps }
+    requires inputs { 16 ≤ length inputs.old }
+    requires cell { cell < length prepared.now.results }
+    ensures value { result ≡ size_from prepared.now
+        (numbers (take (length prepared.now.lists.design.outs) inputs.old)) cell }
+    ensures small { IfSome result (λ size. size ≤ limit) }
+    ensures kept { take (length prepared.now.lists.design.outs) inputs.new
+        ≡ take (length prepared.now.lists.design.outs) inputs.old }
+    ensures room { bench.new.room ≡ bench.old.room }
+{
+    match joined_at(prepared, bench, inputs, cell) {
+        Some(distortion) => Some(distortion.n.unsigned_abs()),
+        None => None,
+    }
+}
+
+/// The cost from the absolute distortions at all cells.
+fn told(kept: &Kept, prepared: &Prepared, bench: &mut Bench<Fix>, inputs: &mut [Fix]) -> Cost
+    requires ready { IsReady kept.now.count prepared.now }
+    requires room { bench.old.room ≡ most_steps }
+    requires inputs { 16 ≤ length inputs.old }
+    ensures value { result ≡ cost_over kept.now.tolerance
+        (size_from prepared.now (numbers (take (length prepared.now.lists.design.outs) inputs.old)))
+        kept.now.count }
+    ensures room { bench.new.room ≡ bench.old.room }
+{
+    let mut tally = Tally::none();
+    for cell in 0..kept.count {
+        let Some(size) = size_at(prepared, bench, inputs, cell) else {
+            return Cost::Unusable { cell };
+        };
+        tally = tally.with(kept.tolerance, cell, size);
+    }
+    tally.cost()
+}
