@@ -7,6 +7,8 @@ pub mod ProblemFiles
 pub mod Eval
 pub mod Certificate
 pub mod Check
+pub mod Wkt
+pub mod Table
 pub mod Commands
 pub mod Ending
 pub mod Limits
