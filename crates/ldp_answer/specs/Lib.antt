@@ -5,5 +5,8 @@ pub mod EvalText
 pub mod Eval
 pub mod Rejection
 pub mod Check
+pub mod JobDesign
+pub mod Wkt
+pub mod Table
 pub mod Laws
 pub mod Design

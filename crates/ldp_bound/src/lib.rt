@@ -16,5 +16,6 @@ mod tally;
 mod tolerance;
 
 pub use ldp_problem::{Bound, Bounds, Cost, Pair};
+pub use lists::family_lists;
 pub use plain::Plain;
 pub use std::alloc::AllocError as Memory;

@@ -1,6 +1,6 @@
 ghost use Rattle.std.specs.Prelude.{◌≡◌, IfOk};
 ghost use Rattle.ldp_distortion.specs.Prepared.{FitTogether};
-ghost use Rattle.ldp_bound.specs.Kinds.{lists_of, is_oblique, is_south};
+ghost use Rattle.ldp_bound.specs.Kinds.{lists_of, is_oblique, is_south, family_lists};
 
 use crate::Memory;
 use ldp_design::{Family, Kind};
@@ -35,4 +35,12 @@ pub(crate) fn is_south(family: &Family) -> bool
     ensures { result ≡ is_south family.now }
 {
     is_oblique(family.kind) && family.lat.from < 0
+}
+
+/// The lists of the kind of a family.
+pub fn family_lists(alloc: Global, family: &Family) -> Result<Lists, Memory>
+    ensures exact { IfOk result (λ lists. lists ≡ family_lists family.now) }
+    ensures fit { IfOk result FitTogether }
+{
+    lists_of(alloc, family.kind, is_south(family))
 }

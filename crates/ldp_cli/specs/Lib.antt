@@ -9,5 +9,7 @@ pub mod Certificate
 pub mod Check
 pub mod Limits
 pub mod Design
+pub mod Wkt
+pub mod Table
 pub mod Commands
 pub mod Ending

@@ -17,8 +17,8 @@ use std::marker::Model;
 /// The words after the name of a command over a job.
 #[derive(Drop)]
 pub struct JobWords<'a> {
-    problem: ProblemWords<'a>,
-    job: &'a str,
+    pub problem: ProblemWords<'a>,
+    pub job: &'a str,
 }
 
 impl<'a> Model for JobWords<'a> {

@@ -7,6 +7,8 @@ use crate::check::{check, upgrade};
 use crate::design::{DesignWords, design, design_words};
 use crate::eval::{EvalWords, eval, eval_words};
 use crate::stop::Stop;
+use crate::table::{TableWords, table, table_words};
+use crate::wkt::{WktWords, wkt, wkt_words};
 use ldp_answer::Answer;
 use ldp_io::Shelf;
 use std::alloc::Global;
@@ -18,6 +20,8 @@ pub enum Request<'a> {
     Design(DesignWords<'a>),
     Check(JobWords<'a>),
     Upgrade(JobWords<'a>),
+    Table(TableWords<'a>),
+    Wkt(WktWords<'a>),
 }
 
 /// The request of the words, if they are in a form and each number is in its range.
@@ -46,6 +50,12 @@ fn request_named<'a>(name: &str, words: &'a [String]) -> Option<Request<'a>>
     if name == "upgrade" {
         return Some(Request::Upgrade(job_words(words)?));
     }
+    if name == "table" {
+        return Some(Request::Table(table_words(words)?));
+    }
+    if name == "wkt" {
+        return Some(Request::Wkt(wkt_words(words)?));
+    }
     None
 }
 
@@ -64,5 +74,7 @@ pub fn answer<H: Shelf>(alloc: Global, shelf: &mut H, request: &Request<'_>) -> 
         Request::Design(words) => design(alloc, shelf, words),
         Request::Check(words) => check(alloc, shelf, words),
         Request::Upgrade(words) => upgrade(alloc, shelf, words),
+        Request::Table(words) => table(alloc, shelf, words),
+        Request::Wkt(words) => wkt(alloc, shelf, words),
     }
 }

@@ -14,10 +14,12 @@ mod pieces;
 mod problem_files;
 mod run;
 mod stop;
+mod table;
 mod take_file;
 #[cfg(test)]
 mod tests;
 mod texts;
+mod wkt;
 mod write_all;
 
 use ldp_io::{FileShelf, StreamSink};
