@@ -5,11 +5,12 @@ ghost use Rattle.ldp_cli.specs.Readings.{zone_read, heights_read, height_file_re
 ghost use Rattle.ldp_cli.specs.Readings.{job_read, is_accepted};
 ghost use Rattle.ldp_cli.specs.Files.{Gives, StopsAt};
 
+use crate::hashed::{Digested, Hashed};
 use crate::stop::Stop;
-use crate::texts::{take_bytes, take_hashed};
+use crate::texts::{take_bytes, take_hashed, take_into};
 use ldp_design::Grids;
 use ldp_grids::{GridFault, read_grids};
-use ldp_heights::{HeightFault, Heights, read_heights};
+use ldp_heights::{HeightFault, HeightReader, Heights};
 use ldp_io::Shelf;
 use ldp_job::{Job, JobFault, read_job};
 use ldp_message::{Refusal, Role};
@@ -65,7 +66,7 @@ pub fn take_zone<H: Shelf>(
     }
 }
 
-/// Reads the file of heights.
+/// Reads the file of heights, piece by piece.
 pub fn take_heights<H: Shelf>(
     alloc: Global,
     shelf: &mut H,
@@ -82,15 +83,16 @@ pub fn take_heights<H: Shelf>(
     ensures serves { H.serves shelf.new ≡ H.serves shelf.old }
     ensures later { Later (H.faults shelf.old) (H.faults shelf.new) }
 {
-    let text = take_bytes(alloc, shelf, place, Role::Heights, name)?;
-    match read_heights(alloc, &text) {
+    let mut reader = HeightReader::new(alloc);
+    take_into(shelf, place, Role::Heights, name, &mut reader)?;
+    match reader.finish() {
         Ok(heights) => Ok(heights),
         Err(HeightFault::Memory) => Err(Stop::Memory),
         Err(fault) => Err(Stop::Refused(Refusal::RefusedHeights(fault))),
     }
 }
 
-/// Reads the file of heights, with its hash.
+/// Reads the file of heights, piece by piece, with its hash.
 pub fn take_height_file<H: Shelf>(
     alloc: Global,
     shelf: &mut H,
@@ -109,12 +111,11 @@ pub fn take_height_file<H: Shelf>(
     ensures serves { H.serves shelf.new ≡ H.serves shelf.old }
     ensures later { Later (H.faults shelf.old) (H.faults shelf.new) }
 {
-    let file = take_hashed(alloc, shelf, place, Role::Heights, name)?;
-    match read_heights(alloc, &file.of) {
-        Ok(heights) => Ok(HeightFile {
-            heights,
-            hash: file.hash,
-        }),
+    let mut reader = Hashed::over(HeightReader::new(alloc));
+    take_into(shelf, place, Role::Heights, name, &mut reader)?;
+    let Digested { of, hash } = reader.finish();
+    match of.finish() {
+        Ok(heights) => Ok(HeightFile { heights, hash }),
         Err(HeightFault::Memory) => Err(Stop::Memory),
         Err(fault) => Err(Stop::Refused(Refusal::RefusedHeights(fault))),
     }

@@ -1,5 +1,6 @@
 ghost use Rattle.std.specs.Prelude.{◌≡◌, ℕ, ◌≤◌, ◌+◌, ◌^◌, List, ◌++◌, length, OnOk};
 
+use ldp_heights::HeightReader;
 use std::alloc::AllocError as Memory;
 
 /// What a file is taken into, piece by piece.
@@ -20,5 +21,15 @@ impl Pieces for Vec<u8> {
 
     fn feed(&mut self, piece: &[u8]) -> Result<(), Memory> {
         self.extend_from_slice(piece)
+    }
+}
+
+impl Pieces for HeightReader {
+    ghost use Rattle.ldp_heights.specs.Pieces.{Holds};
+
+    ghost holds = { λ reader text. Holds reader text };
+
+    fn feed(&mut self, piece: &[u8]) -> Result<(), Memory> {
+        self.feed(piece)
     }
 }

@@ -1,10 +1,11 @@
-ghost use Rattle.std.specs.Prelude.{◌≡◌, ◌<◌, IsTrue, Ok, Err, IfOk, IfErr, IfSome};
+ghost use Rattle.std.specs.Prelude.{◌≡◌, ◌<◌, [], IsTrue, Ok, Err, OnOk, IfOk, IfErr, IfSome};
 ghost use Rattle.sha2.specs.Sha256.{sha256};
 ghost use Rattle.ldp_io.specs.Count.{Later};
 ghost use Rattle.ldp_cli.specs.Readings.{short_text};
 ghost use Rattle.ldp_cli.specs.Files.{Gives, StopsAt};
 
 use crate::hashed::{Digested, Hashed};
+use crate::pieces::Pieces;
 use crate::stop::Stop;
 use crate::take_file::{FileFault, take_file};
 use ldp_io::Shelf;
@@ -13,6 +14,37 @@ use std::alloc::Global;
 
 /// The most bytes of a file.
 const MOST_BYTES: usize = 128_000_000;
+
+/// Takes a file that is short enough, piece by piece, into what has taken nothing yet.
+pub fn take_into<H: Shelf, P: Pieces>(
+    shelf: &mut H,
+    place: u8,
+    role: Role,
+    name: &str,
+    into: &mut P,
+) -> Result<(), Stop>
+    requires place { place < 4 }
+    requires served { IsTrue (H.serves shelf.old place name.now) }
+    requires empty { P.holds into.old [] }
+    ensures taken { OnOk result (IfSome (H.files shelf.old)
+        (λ files. P.holds into.new (files name.now))) }
+    ensures short { OnOk result (IfSome (H.files shelf.old)
+        (λ files. short_text role (files name.now) ≡ Ok (files name.now))) }
+    ensures told { IfErr result (λ stop. IfSome (H.files shelf.old)
+        (λ files. Gives (Err stop) (short_text role (files name.now)))) }
+    ensures stops { IfErr result (λ stop.
+        StopsAt place role stop (H.faults shelf.old) (H.faults shelf.new)) }
+    ensures files { H.files shelf.new ≡ H.files shelf.old }
+    ensures serves { H.serves shelf.new ≡ H.serves shelf.old }
+    ensures later { Later (H.faults shelf.old) (H.faults shelf.new) }
+{
+    match take_file(shelf, place, name, MOST_BYTES, into) {
+        Ok(()) => Ok(()),
+        Err(FileFault::TooLong) => Err(Stop::Refused(Refusal::TooLong(role))),
+        Err(FileFault::Failed) => Err(Stop::Unread { place, role }),
+        Err(FileFault::Memory) => Err(Stop::Memory),
+    }
+}
 
 /// The bytes of a file that is short enough.
 pub fn take_bytes<H: Shelf>(
@@ -35,12 +67,8 @@ pub fn take_bytes<H: Shelf>(
     ensures later { Later (H.faults shelf.old) (H.faults shelf.new) }
 {
     let mut text = Vec::new(alloc);
-    match take_file(shelf, place, name, MOST_BYTES, &mut text) {
-        Ok(()) => Ok(text),
-        Err(FileFault::TooLong) => Err(Stop::Refused(Refusal::TooLong(role))),
-        Err(FileFault::Failed) => Err(Stop::Unread { place, role }),
-        Err(FileFault::Memory) => Err(Stop::Memory),
-    }
+    take_into(shelf, place, role, name, &mut text)?;
+    Ok(text)
 }
 
 /// The bytes of a file that is short enough, with their hash.
@@ -66,10 +94,6 @@ pub fn take_hashed<H: Shelf>(
     ensures later { Later (H.faults shelf.old) (H.faults shelf.new) }
 {
     let mut text = Hashed::over(Vec::new(alloc));
-    match take_file(shelf, place, name, MOST_BYTES, &mut text) {
-        Ok(()) => Ok(text.finish()),
-        Err(FileFault::TooLong) => Err(Stop::Refused(Refusal::TooLong(role))),
-        Err(FileFault::Failed) => Err(Stop::Unread { place, role }),
-        Err(FileFault::Memory) => Err(Stop::Memory),
-    }
+    take_into(shelf, place, role, name, &mut text)?;
+    Ok(text.finish())
 }
