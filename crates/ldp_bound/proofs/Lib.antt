@@ -1,8 +1,8 @@
 mod Tallies
 mod Families
 mod Runs
-mod Carriers
-mod Sound
+pub mod Carriers
+pub mod Sound
 mod Cells
 mod Kepts
 mod Loops

@@ -5,6 +5,7 @@
 mod inputs;
 mod kept;
 mod kinds;
+pub mod laws;
 mod lists;
 mod lows;
 mod plain;
