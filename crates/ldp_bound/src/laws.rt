@@ -1,5 +1,6 @@
 //! The laws of the distortion of boxes, for all families and cells.
-ghost use Rattle.ldp_bound.specs.Laws.{PlainIsSound, RangesHold, SinglesAreSharp, DistortionFollows};
+ghost use Rattle.ldp_bound.specs.Laws.{PlainIsSound, RangesHold, SinglesAreSharp};
+ghost use Rattle.ldp_bound.specs.Laws.{DistortionFollows};
 
 /// The problem over families and cells is sound, whoever bounds it.
 pub fn sound()
