@@ -1,7 +1,7 @@
 mod Tallies
 mod Families
 mod Runs
-mod Carriers
+pub mod Carriers
 pub mod Sound
 mod Cells
 mod Kepts

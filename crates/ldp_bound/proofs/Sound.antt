@@ -77,7 +77,7 @@ between families b d f grids lies inside found =
     held
 
 -- so does its distortion in the range of the box
-range_holds : (families : List Family) (cells : List Cell) (b : DesignBox) (d : Design) (i : ℕ)
+pub range_holds : (families : List Family) (cells : List Cell) (b : DesignBox) (d : Design) (i : ℕ)
     (t : ℤ × ℤ) → AreGrids families
     → LiesInFamily families b → IsIn d b → range_at families cells b i ≡ Some t
     → Reaches LiesIn (distortion_at number_ops families cells d.family (design_numbers d) i) t
@@ -105,7 +105,7 @@ one_design b single =
     let scale : b.scale.lo ≡ b.scale.hi = single.one Scale in
     cc
 
-single_range : (families : List Family) (cells : List Cell) (b : DesignBox) (i : ℕ) → IsSingle b
+pub single_range : (families : List Family) (cells : List Cell) (b : DesignBox) (i : ℕ) → IsSingle b
     → range_at families cells b i
     ≡ option_map twice (distortion_at number_ops families cells b.family
     (design_numbers (first_of b)) i)

@@ -2,3 +2,4 @@ pub mod Kinds
 pub mod Plain
 pub mod Kept
 pub mod Tally
+pub mod Laws

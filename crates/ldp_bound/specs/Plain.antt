@@ -1,6 +1,6 @@
 -- The problem of families of designs over cells, where the distortion of a box is bounded by its
 -- range alone.
-use Rattle.std.specs.Prelude.{ℕ, ◌<◌, ℤ, pos, ◌≤ℤ◌, List, [], ◌∷◌, length, slice_get, Option, None, Some}
+use Rattle.std.specs.Prelude.{ℕ, ℤ, pos, ◌≤ℤ◌, List, [], ◌∷◌, length, slice_get, Option, None, Some}
 use Rattle.std.specs.Prelude.{option_map, option_and_then, unsigned_abs}
 use Rattle.ldp_num.specs.Number.{limit}
 use Rattle.ldp_num.specs.Written.{Ops, number_ops, range_ops}
@@ -11,12 +11,12 @@ use Rattle.ldp_design.specs.declared.family.Family.{Family}
 use Rattle.ldp_design.specs.declared.design.Design.{Design}
 use Rattle.ldp_design.specs.declared.design_box.DesignBox.{DesignBox}
 use Rattle.ldp_design.specs.declared.inputs.Inputs4.{Inputs4}
-use Rattle.ldp_design.specs.Families.{family_of, AreGrids}
+use Rattle.ldp_design.specs.Families.{family_of}
 use Rattle.ldp_design.specs.Boxes.{first_of, last_of}
 use Rattle.ldp_design.specs.Inputs.{inputs_at}
 use Rattle.ldp_problem.specs.declared.cost.Cost.{Cost}
 use Rattle.ldp_problem.specs.declared.cost.Cost.TheVariants as costs
-use Rattle.ldp_problem.specs.Problem.{Problem, IsSound}
+use Rattle.ldp_problem.specs.Problem.{Problem}
 use Rattle.ldp_bound.specs.Kinds.{family_lists}
 
 -- the inputs of the design list for a design, as numbers, and for a box, as pairs of those at its
@@ -84,9 +84,3 @@ plain_problem families cells tolerance = record {
 abbrev pub HasNumber : Cost → Type 0
 HasNumber (costs.Is over value cell) = (pos 0 ≤ℤ value) × (value ≤ℤ pos limit)
 HasNumber (costs.Unusable cell) = Unit {0}
-
--- the least distortion of a box keeps the laws
-abbrev pub PlainIsSound : Type 0
-PlainIsSound = (families : List Family) (cells : List Cell) (tolerance : Option ℕ)
-    → AreGrids families → 0 < length cells
-    → IsSound (plain_problem families cells tolerance)

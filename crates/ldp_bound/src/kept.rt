@@ -1,4 +1,5 @@
-ghost use Rattle.std.specs.Prelude.{◌≡◌, ◌≤◌, ◌<◌, length, IfOk, IfSome, option_map, option_and_then};
+ghost use Rattle.std.specs.Prelude.{◌≡◌, ◌≤◌, ◌<◌, length, IfOk, IfSome, option_map};
+ghost use Rattle.std.specs.Prelude.{option_and_then};
 ghost use Rattle.ldp_design.specs.Families.{AreGrids, family_of};
 ghost use Rattle.ldp_problem.specs.Problem.{IsSound};
 ghost use Rattle.ldp_bound.specs.Kept.{kinds_of, family_set, kept_problem, HasCells, IsReady};

@@ -1,7 +1,19 @@
-//! What is so of the problem of any families and cells.
-ghost use Rattle.ldp_bound.specs.Plain.{PlainIsSound};
+//! The laws of the distortion of boxes, for all families and cells.
+ghost use Rattle.ldp_bound.specs.Laws.{PlainIsSound, RangesHold, SinglesAreSharp};
+ghost use Rattle.ldp_bound.specs.Laws.{DistortionFollows};
 
-/// The least distortion of a box is at most that of each of its designs, and exact for one design.
-pub fn plain_problems()
+/// The problem over families and cells is sound, whoever bounds it.
+pub fn sound()
     ensures { PlainIsSound }
+{}
+
+/// The range of a box holds the distortion of its designs, and at one design it is that.
+pub fn ranges()
+    ensures hold { RangesHold }
+    ensures sharp { SinglesAreSharp }
+{}
+
+/// The distortion in two carriers whose values are related list by list.
+pub fn following<A, B>()
+    ensures { DistortionFollows A B }
 {}

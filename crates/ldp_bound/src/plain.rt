@@ -1,4 +1,5 @@
-ghost use Rattle.std.specs.Prelude.{◌≡◌, ◌<◌, ◌≤ℤ◌, pos, length, IfOk, IfSome, option_map, unsigned_abs};
+ghost use Rattle.std.specs.Prelude.{◌≡◌, ◌<◌, ◌≤ℤ◌, pos, length, IfOk, IfSome, option_map};
+ghost use Rattle.std.specs.Prelude.{unsigned_abs};
 ghost use Rattle.ldp_num.specs.Steps.{most_steps};
 
 use crate::Memory;

@@ -1,4 +1,5 @@
-ghost use Rattle.std.specs.Prelude.{◌≡◌, ◌<◌, ◌≤◌, ◌+◌, ◌-◌, ◌^◌, ◌++◌, ◌∷◌, [], ℕ, List, Option, length, max, pos};
+ghost use Rattle.std.specs.Prelude.{◌≡◌, ◌<◌, ◌≤◌, ◌+◌, ◌-◌, ◌^◌, ◌++◌, ◌∷◌, [], ℕ, List, Option};
+ghost use Rattle.std.specs.Prelude.{length, max, pos};
 ghost use Rattle.ldp_num.specs.Number.{limit};
 ghost use Rattle.ldp_bound.specs.Plain.{HasNumber};
 ghost use Rattle.ldp_bound.specs.Tally.{tally_of, counted};

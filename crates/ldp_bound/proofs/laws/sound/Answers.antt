@@ -1,5 +1,5 @@
 use Rattle.ldp_bound.proofs.Sound.{plain_sound}
-use Rattle.ldp_bound.proofs.laws.plain_problems.Goals as goal
+use Rattle.ldp_bound.proofs.laws.sound.Goals as goal
 
 pub returns : goal.returns
 returns c = plain_sound
