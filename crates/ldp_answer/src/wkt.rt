@@ -13,12 +13,7 @@ use std::alloc::Global;
 
 /// What `wkt` prints: the line of the coordinate reference system of a job's design. The hash is
 /// that of the file of the grids.
-pub fn wkt_over(
-    alloc: Global,
-    grids: &Grids,
-    hash: &[u8; 32],
-    job: &Job,
-) -> Result<Answer, Memory>
+pub fn wkt_over(alloc: Global, grids: &Grids, hash: &[u8; 32], job: &Job) -> Result<Answer, Memory>
     ensures { IfOk result (λ answer. answer ≡ wkt_over grids.now hash.now job.now) }
 {
     match other_grids(hash, job) {

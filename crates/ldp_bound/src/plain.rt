@@ -99,10 +99,8 @@ impl Bounds for Plain {
         requires { IsAdmitted (⟦<Plain as Bounds>⟧.problem self.old).families d.now }
         ensures value { result ≡ cost_of (⟦<Plain as Bounds>⟧.problem self.old) d.now }
         ensures number { HasNumber result }
-        ensures same {
-            ⟦<Plain as Bounds>⟧.problem self.new ≡ ⟦<Plain as Bounds>⟧.problem self.old }
-        ensures asked {
-            ⟦<Plain as Bounds>⟧.times self.new ≡ count_up (⟦<Plain as Bounds>⟧.times self.old) }
+        ensures same { ⟦<Plain as Bounds>⟧.problem self.new ≡ ⟦<Plain as Bounds>⟧.problem self.old }
+        ensures asked { ⟦<Plain as Bounds>⟧.times self.new ≡ count_up (⟦<Plain as Bounds>⟧.times self.old) }
     {
         self.asked = self.asked.saturating_add(1);
         cost(&self.kept, &mut self.numbers, d)

@@ -65,5 +65,12 @@ pub fn table<H: Shelf>(alloc: Global, shelf: &mut H, words: &TableWords<'_>) -> 
 {
     let read = take_certificate(alloc, shelf, &words.job)?;
     let form = words.form;
-    Ok(table_over(alloc, form, &read.cells, &read.grids, &read.names, &read.job)?)
+    Ok(table_over(
+        alloc,
+        form,
+        &read.cells,
+        &read.grids,
+        &read.names,
+        &read.job,
+    )?)
 }
