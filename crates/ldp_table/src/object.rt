@@ -86,12 +86,7 @@ fn object_value(
 }
 
 /// The object of a table.
-fn table_value(
-    alloc: Global,
-    rows: &[Row],
-    missing: u32,
-    worst: i128,
-) -> Result<Value, Memory>
+fn table_value(alloc: Global, rows: &[Row], missing: u32, worst: i128) -> Result<Value, Memory>
     requires rows { All IsRow rows.now }
     requires few { length rows.now ≤ 200_000 }
     requires worst { IsNumber worst }

@@ -1,11 +1,10 @@
 -- Values in the ranges of their keys.
-use Rattle.std.proofs.Common.{◌≡◌, ℕ, ◌≤◌, lit≤, nat_le, ℤ, pos, negsuc, neg_ℤ, ◌≤ℤ◌, unsigned_abs}
-use Rattle.std.proofs.Common.{Bool, true, false, ◌&&◌, IsTrue, refl, sym, ap, subst, ◌∙◌, arith}
+use Rattle.std.proofs.Common.{◌≡◌, ℕ, ◌≤◌, lit≤, nat_le, ℤ, pos, negsuc, ◌≤ℤ◌, unsigned_abs}
+use Rattle.std.proofs.Common.{Bool, true, false, ◌&&◌, IsTrue, refl, arith}
 use Rattle.std.proofs.Common.{rules}
 use Rattle.std.specs.Prelude.{int_le}
 use Rattle.std.proofs.lemmas.Bool.Decides.{nat_tests}
 use Rattle.std.proofs.lemmas.Int.{ints}
-use Rattle.ldp_quantity.specs.Quantity.{tenths}
 use Rattle.ldp_quantity.specs.Between.{int_between}
 use Rattle.ldp_design.specs.declared.family.Kind.{Kind}
 use Rattle.ldp_design.specs.declared.family.Kind.TheVariants.{Tm, Lambert, Hotine, Lambert2}
@@ -40,8 +39,11 @@ pub record Lies (range : Range) (z : ℤ) : Type 0 where
 
 pub lies_in : (range : Range) (z : ℤ) → Lies range z → IsTrue (is_in_range range z)
 lies_in range z h =
-    rw (int_le_yes range.low z h.low, int_le_yes z range.high h.high,
-    le_yes range.least (unsigned_abs z) h.least) refl
+    rw (
+      int_le_yes range.low z h.low,
+      int_le_yes z range.high h.high,
+      le_yes range.least (unsigned_abs z) h.least,
+    ) refl
 
 pub lies : (range : Range) (z : ℤ) → IsTrue (is_in_range range z) → Lies range z
 lies range z h =

@@ -56,10 +56,10 @@ fn read_parameter<'a>(
     requires { length left.now ≤ length text.now }
     ensures step { (ps : List Parameter) →
         let all = read_pieces (length text.now) crs left.now
-            (pieces_from (front_text front) (parameter ∷ ps)) in
+        (pieces_from (front_text front) (parameter ∷ ps)) in
         MatchResult result
         (λ next. all ≡ read_pieces (length text.now) next.0 next.1.now
-            (pieces_from (behind parameter) ps))
+        (pieces_from (behind parameter) ps))
         (λ fault. all ≡ Err fault) }
     ensures shorter { IfOk result (λ next. length next.1.now ≤ length text.now) }
 {

@@ -54,13 +54,31 @@ fn with_value(key: Key, value: i128, crs: Crs) -> Crs
 {
     match key {
         Key::Lat => Crs { lat: value, ..crs },
-        Key::Lat2 => Crs { azimuth: value, ..crs },
+        Key::Lat2 => Crs {
+            azimuth: value,
+            ..crs
+        },
         Key::Lon => Crs { lon: value, ..crs },
-        Key::Azimuth => Crs { azimuth: value, ..crs },
-        Key::Scale => Crs { scale: value, ..crs },
-        Key::Origin => Crs { origin: value, ..crs },
-        Key::Easting => Crs { easting: value as i64, ..crs },
-        Key::Northing => Crs { northing: value as i64, ..crs },
+        Key::Azimuth => Crs {
+            azimuth: value,
+            ..crs
+        },
+        Key::Scale => Crs {
+            scale: value,
+            ..crs
+        },
+        Key::Origin => Crs {
+            origin: value,
+            ..crs
+        },
+        Key::Easting => Crs {
+            easting: value as i64,
+            ..crs
+        },
+        Key::Northing => Crs {
+            northing: value as i64,
+            ..crs
+        },
         Key::Top | Key::Family | Key::Kind => crs,
     }
 }
