@@ -1,5 +1,5 @@
 -- Rows counted one after another.
-use Rattle.std.proofs.Common.{◌≡◌, ◌≢◌, ℕ, suc, ◌+◌, ◌<◌, ◌≤◌, ◌==◌, Bool, true, false, List, []}
+use Rattle.std.proofs.Common.{◌≡◌, ◌≢◌, ℕ, ◌+◌, ◌<◌, ◌≤◌, ◌==◌, Bool, true, false, List, []}
 use Rattle.std.proofs.Common.{◌∷◌, length, map, get_or, take, refl, sym, ap, ◌∙◌, arith}
 use Rattle.std.proofs.Math.ListN.{set}
 use Rattle.std.proofs.lemmas.Bool.Decides.{nat_tests}
@@ -48,7 +48,8 @@ few_by : (counts : List ℕ) (i band k : ℕ) (t : Bool) → (band == k) ≡ t �
     → get_or (set counts band (get_or counts band 0 + 1)) k 0 ≤ i + 1
 few_by counts i band k true e six few b h =
     let same : band ≡ k = is_band band k e in
-    let set_is : get_or (set counts band (get_or counts band 0 + 1)) k 0 ≡ get_or counts band 0 + 1 =
+    let set_is : get_or (set counts band (get_or counts band 0 + 1)) k 0
+    ≡ get_or counts band 0 + 1 =
     ap (λ j. get_or (set counts band (get_or counts band 0 + 1)) j 0) (sym same)
     ∙ get_or-set_same counts band (get_or counts band 0 + 1) 0 six in
     omega (arith, set_is, few band b)

@@ -1,8 +1,8 @@
 -- Lines put together one after another.
-use Rattle.std.proofs.Common.{◌≡◌, ℕ, zero, suc, ◌+◌, ◌<◌, ◌≤◌, List, [], ◌∷◌, ◌++◌, append_assoc}
+use Rattle.std.proofs.Common.{◌≡◌, ℕ, zero, suc, ◌+◌, ◌<◌, List, [], ◌∷◌, ◌++◌, append_assoc}
 use Rattle.std.proofs.Common.{length, map, get_or, take, refl, sym, ap, ◌∙◌, arith, add-one}
 use Rattle.std.proofs.Common.{OnOk, Result, Ok, Err}
-use Rattle.std.proofs.lemmas.List.{append-nil, map-append, take_more, flat_map_more, take_all}
+use Rattle.std.proofs.lemmas.List.{map-append, take_more, flat_map_more}
 use Rattle.std.proofs.lemmas.Grind.{flat_map-append}
 use Rattle.ldp_table.specs.declared.row.Row.{Row}
 use Rattle.ldp_table.specs.Texts.{Words, row_words, band_words, over_words, bands_words, line_text}

@@ -1,14 +1,14 @@
 -- Rows measured one after another.
-use Rattle.std.proofs.Common.{◌≡◌, ℕ, zero, suc, ◌+◌, ◌<◌, ◌≤◌, ℤ, List, [], ◌∷◌, ◌++◌, append_assoc, length, map, All}
+use Rattle.std.proofs.Common.{◌≡◌, ℕ, zero, suc, ◌+◌, ◌<◌, ℤ, List, [], ◌∷◌, ◌++◌, append_assoc}
+use Rattle.std.proofs.Common.{length, map, All}
 use Rattle.std.proofs.Common.{take, Option, Some, None, refl, sym, ap, ◌∙◌, arith, add-one}
 use Rattle.std.specs.Prelude.{slice_get}
-use Rattle.std.proofs.lemmas.List.{append-nil, length-map}
-use Rattle.ldp_num.specs.Number.{IsNumber}
+use Rattle.std.proofs.lemmas.List.{length-map}
 use Rattle.ldp_series.specs.declared.list.Lists.{Lists}
 use Rattle.ldp_cells.specs.declared.cell.Cell.{Cell}
 use Rattle.ldp_distortion.specs.Distortion.{cell_results, design_results, joined, distortion}
 use Rattle.ldp_distortion.specs.Distortion.{distortion_in, distortions}
-use Rattle.ldp_distortion.specs.Prepared.{PreparedCells, prepared, distortions_from, distortions_of}
+use Rattle.ldp_distortion.specs.Prepared.{PreparedCells, distortions_from, distortions_of}
 use Rattle.ldp_distortion.specs.declared.inputs.Inputs.{Inputs}
 use Rattle.ldp_table.specs.declared.row.Row.{Row}
 use Rattle.ldp_table.specs.Rows.{IsOver, IsRow, rows_of}

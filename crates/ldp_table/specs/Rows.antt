@@ -1,5 +1,5 @@
 -- The rows of a table: the cells with the distortion of a design there.
-use Rattle.std.specs.Prelude.{◌≡◌, ℤ, List, [], ◌∷◌, Option, Some, None, map}
+use Rattle.std.specs.Prelude.{◌≡◌, ℤ, List, [], ◌∷◌, Option, Some, None}
 use Rattle.ldp_num.specs.Number.{IsNumber}
 use Rattle.ldp_cells.specs.declared.cell.Cell.{Cell}
 use Rattle.ldp_cells.specs.Range.{IsInRange}

@@ -1,11 +1,10 @@
 -- Values in the ranges of their keys.
-use Rattle.std.proofs.Common.{◌≡◌, ℕ, ◌≤◌, lit≤, nat_le, ℤ, pos, negsuc, neg_ℤ, ◌≤ℤ◌, unsigned_abs}
-use Rattle.std.proofs.Common.{Bool, true, false, ◌&&◌, IsTrue, refl, sym, ap, subst, ◌∙◌, arith}
+use Rattle.std.proofs.Common.{◌≡◌, ℕ, ◌≤◌, lit≤, nat_le, ℤ, pos, negsuc, ◌≤ℤ◌, unsigned_abs}
+use Rattle.std.proofs.Common.{Bool, true, false, ◌&&◌, IsTrue, refl, arith}
 use Rattle.std.proofs.Common.{rules}
 use Rattle.std.specs.Prelude.{int_le}
 use Rattle.std.proofs.lemmas.Bool.Decides.{nat_tests}
 use Rattle.std.proofs.lemmas.Int.{ints}
-use Rattle.ldp_quantity.specs.Quantity.{tenths}
 use Rattle.ldp_quantity.specs.Between.{int_between}
 use Rattle.ldp_design.specs.declared.family.Kind.{Kind}
 use Rattle.ldp_design.specs.declared.family.Kind.TheVariants.{Tm, Lambert, Hotine, Lambert2}

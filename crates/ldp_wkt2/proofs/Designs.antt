@@ -1,19 +1,17 @@
 -- The system of a design has a line.
-use Rattle.std.proofs.Common.{◌≡◌, ℕ, suc, ◌-◌, ◌*◌, ◌<◌, ◌≤◌, nat_le, ℤ, pos, negsuc, neg_ℤ}
-use Rattle.std.proofs.Common.{◌+ℤ◌, ◌*ℤ◌, ◌≤ℤ◌, ◌<ℤ◌, unsigned_abs, Bool, true, false, ◌&&◌}
-use Rattle.std.proofs.Common.{◌⊎◌, inl, inr, IsTrue, refl, sym, ap, subst, ◌∙◌, arith, rules}
-use Rattle.std.specs.Prelude.{int_le}
+use Rattle.std.proofs.Common.{◌≡◌, ℕ, ◌-◌, ◌<◌, ◌≤◌, ℤ, pos, negsuc, neg_ℤ}
+use Rattle.std.proofs.Common.{◌+ℤ◌, ◌*ℤ◌, ◌≤ℤ◌, ◌<ℤ◌, unsigned_abs}
+use Rattle.std.proofs.Common.{inl, inr, IsTrue, ap, ◌∙◌, arith}
 use Rattle.std.proofs.Math.Nat.{mul-le-mul_right}
-use Rattle.std.proofs.lemmas.Bool.Decides.{nat_tests}
 use Rattle.std.proofs.lemmas.Int.{ints}
 use Rattle.ldp_quantity.specs.Quantity.{degrees, tenths}
-use Rattle.ldp_quantity.specs.Between.{IsBetween, int_between}
+use Rattle.ldp_quantity.specs.Between.{IsBetween}
 use Rattle.ldp_design.specs.declared.axis.Axis.{Axis}
 use Rattle.ldp_design.specs.declared.design.Design.{Design}
 use Rattle.ldp_design.specs.declared.family.Family.{Family}
 use Rattle.ldp_design.specs.declared.family.Kind.{Kind}
 use Rattle.ldp_design.specs.declared.family.Kind.TheVariants.{Tm, Lambert, Hotine, Lambert2}
-use Rattle.ldp_design.specs.Families.{value_at, last_value, single_axis, IsAxis, IsOneValue}
+use Rattle.ldp_design.specs.Families.{value_at, last_value, single_axis, IsAxis}
 use Rattle.ldp_design.specs.Families.{IsParallelAxis, IsFalseOrigin, IsOfKind, IsValid}
 use Rattle.ldp_design.specs.Designs.{IsDesignOf}
 use Rattle.ldp_grids.specs.declared.fault.Key.TheVariants as keys

@@ -1,5 +1,6 @@
 -- What follows a front of a text.
-use Rattle.std.proofs.Common.{◌≡◌, ◌≢◌, ℕ, suc, ◌≤◌, ◌==◌, Bool, true, false, List, [], ◌∷◌, ◌++◌, length}
+use Rattle.std.proofs.Common.{◌≡◌, ◌≢◌, ℕ, suc, ◌==◌, Bool, true, false, List, [], ◌∷◌, ◌++◌}
+use Rattle.std.proofs.Common.{length}
 use Rattle.std.proofs.Common.{Option, Some, None, option_and_then, refl, sym, ap, ◌∙◌, arith}
 use Rattle.std.proofs.Common.{if◌then◌else◌, MatchOption, Bor, ◌+◌, ◌<◌, get_or, take, drop}
 use Rattle.std.specs.Prelude.{bytes_eq}
@@ -92,7 +93,8 @@ next_part parts i d h =
     ∙ ap (λ k. (get_or parts i d).now ++ joined (drop k parts)) (sym one)
 
 pub part_none : (parts : List Part) (i : ℕ) (d : Part) (left : List ℕ) → i < length parts
-    → rest_behind (get_or parts i d).now left ≡ None → rest_behind (joined (drop i parts)) left ≡ None
+    → rest_behind (get_or parts i d).now left ≡ None
+    → rest_behind (joined (drop i parts)) left ≡ None
 part_none parts i d left h e =
     ap (λ f. rest_behind f left) (next_part parts i d h)
     ∙ (behind_append (get_or parts i d).now (joined (drop (i + 1) parts)) left

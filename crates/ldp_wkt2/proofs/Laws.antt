@@ -1,9 +1,9 @@
 -- A line that is read is that of its system, and the line of a system is read to it.
-use Rattle.std.proofs.Common.{◌≡◌, ◌≢◌, ℕ, ◌≤◌, lit≤, nat_le, ℤ, pos, negsuc, neg_ℤ, ◌≤ℤ◌}
-use Rattle.std.proofs.Common.{unsigned_abs, Bool, true, false, ◌&&◌, IsTrue, List, [], ◌∷◌, ◌++◌}
-use Rattle.std.proofs.Common.{append_assoc, length, take, drop, Option, Some, None}
+use Rattle.std.proofs.Common.{◌≡◌, ℕ, ◌≤◌, nat_le, ℤ, pos}
+use Rattle.std.proofs.Common.{unsigned_abs, Bool, true, false, IsTrue, List, [], ◌∷◌, ◌++◌}
+use Rattle.std.proofs.Common.{append_assoc, length, Option, Some, None}
 use Rattle.std.proofs.Common.{option_and_then, IfOk, Result, Ok, Err, refl, sym, ap, subst, ◌∙◌}
-use Rattle.std.proofs.Common.{arith, rules, if◌then◌else◌}
+use Rattle.std.proofs.Common.{arith, if◌then◌else◌}
 use Rattle.std.specs.List.{flat_map, prefix_len}
 use Rattle.std.specs.Ordering.{int_eq}
 use Rattle.std.proofs.lemmas.Bool.Decides.{Decides-int_eq}
@@ -11,7 +11,7 @@ use Rattle.std.proofs.lemmas.Int.{ints}
 use Rattle.std.proofs.lemmas.List.{append-nil, take-append-drop}
 use Rattle.ldp_decimal.specs.Writing.{trimmed_text}
 use Rattle.ldp_quantity.specs.Quantity.{tenths}
-use Rattle.ldp_spelling.specs.Numbers.{limit, trimmed_in}
+use Rattle.ldp_spelling.specs.Numbers.{trimmed_in}
 use Rattle.ldp_spelling.proofs.Written.{trimmed_found, trimmed_again}
 use Rattle.ldp_design.specs.declared.family.Kind.{Kind}
 use Rattle.ldp_design.specs.declared.family.Kind.TheVariants.{Tm, Lambert, Hotine, Lambert2}
@@ -27,11 +27,11 @@ use Rattle.ldp_wkt2.specs.Profile.{row_of, natural_origin, parameters_of}
 use Rattle.ldp_wkt2.specs.Values.{value_of, IsAllowed, IsCrs}
 use Rattle.ldp_wkt2.specs.Lines.{start, end, method_text, before, behind, number_text}
 use Rattle.ldp_wkt2.specs.Lines.{parameter_text, crs_text}
-use Rattle.ldp_wkt2.specs.Reading.{pieces_from, pieces_of, rest_behind, run, behind_run}
+use Rattle.ldp_wkt2.specs.Reading.{pieces_from, rest_behind, run, behind_run}
 use Rattle.ldp_wkt2.specs.Reading.{is_value, far_enough, number_in, blank, with_value, is_rectified}
 use Rattle.ldp_wkt2.specs.Reading.{with_number, valued, fitted, ended}
 use Rattle.ldp_wkt2.specs.Reading.{read_pieces, kind_at, read_method, crs, IsLineOf}
-use Rattle.ldp_wkt2.proofs.Allowed.{both, lies, lies_in, narrow, small, le_is, le_yes, IsNarrow}
+use Rattle.ldp_wkt2.proofs.Allowed.{lies, lies_in, narrow, small, le_is, le_yes, IsNarrow}
 use Rattle.ldp_wkt2.proofs.Fronts.{behind_found, behind_some}
 use Rattle.ldp_wkt2.proofs.Runs.{trimmed_values, run_is, behind_run_is}
 
@@ -195,7 +195,8 @@ comma : (p : Parameter) (rest : List ℕ) → (tail : List ℕ) × (behind p ++ 
 unfolding behind
 comma p rest = (_, refl)
 
-value_again : (kind : Kind) (p : Parameter) (z : ℤ) (rest : List ℕ) → IsAllowed (row_of p).key kind z
+value_again : (kind : Kind) (p : Parameter) (z : ℤ) (rest : List ℕ)
+    → IsAllowed (row_of p).key kind z
     → (run (number_text kind p z ++ (behind p ++ rest)) ≡ number_text kind p z)
     × (behind_run (number_text kind p z ++ (behind p ++ rest)) ≡ behind p ++ rest)
 value_again kind p z rest h =
@@ -336,10 +337,11 @@ hotine_found : (zs : Numbers (parameters_of Hotine)) (d : Crs)
     → AreAllowed Hotine (parameters_of Hotine) zs
     → all_numbers (parameters_of Hotine) zs (blank Hotine) ≡ Some d → HasNumbers Hotine zs d
 hotine_found zs d h e =
-    let more : List Parameter = are.ScaleAtCentre ∷ are.EastingAtCentre ∷ are.NorthingAtCentre ∷ [] in
+    let more : List Parameter =
+    are.ScaleAtCentre ∷ are.EastingAtCentre ∷ are.NorthingAtCentre ∷ [] in
     let first : Crs = made Hotine zs.0 zs.1.0 zs.1.1.0 (tenths 10) (pos 0) (pos 0) (pos 0) in
-    let step = some_of (all_numbers more zs.1.1.1.1) (with_number are.RectifiedToSkew first zs.1.1.1.0)
-    d e in
+    let step = some_of (all_numbers more zs.1.1.1.1)
+    (with_number are.RectifiedToSkew first zs.1.1.1.0) d e in
     let same = if_some (int_eq zs.1.1.1.0 zs.1.1.0) first step.0 step.1 in
     let angle : zs.1.1.0 ≡ zs.1.1.1.0 =
     sym ((Decides-int_eq zs.1.1.1.0 zs.1.1.0).0 same.0) in

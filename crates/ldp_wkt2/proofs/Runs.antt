@@ -1,5 +1,5 @@
 -- A written number is the longest run of value bytes, where a comma follows it.
-use Rattle.std.proofs.Common.{◌≡◌, ℕ, zero, suc, ◌+◌, ◌-◌, ◌/◌, ◌%◌, ◌^◌, ◌<◌, ◌≤◌, ◌==◌, ◌&&◌}
+use Rattle.std.proofs.Common.{◌≡◌, ℕ, zero, suc, ◌-◌, ◌/◌, ◌%◌, ◌^◌, ◌≤◌, ◌==◌}
 use Rattle.std.proofs.Common.{ℤ, pos, negsuc, unsigned_abs, Bool, true, false, List, [], ◌∷◌, ◌++◌}
 use Rattle.std.proofs.Common.{length, take, drop, replicate, decimal, refl, ap, ◌∙◌, arith, rules}
 use Rattle.std.proofs.Common.{if◌then◌else◌}

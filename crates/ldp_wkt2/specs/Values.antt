@@ -1,5 +1,5 @@
 -- The coordinate reference systems that have a line, and the one of a design.
-use Rattle.std.specs.Prelude.{◌≡◌, ℕ, ℤ, pos, List, Option, option_map, IsTrue}
+use Rattle.std.specs.Prelude.{◌≡◌, ℤ, pos, List, Option, option_map, IsTrue}
 use Rattle.ldp_quantity.specs.Quantity.{tenths}
 use Rattle.ldp_design.specs.declared.design.Design.{Design}
 use Rattle.ldp_design.specs.declared.family.Family.{Family}

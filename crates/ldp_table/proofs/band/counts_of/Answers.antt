@@ -1,4 +1,4 @@
-use Rattle.std.proofs.Common.{◌≡◌, ◌≤◌, length, take, length-set, ap, ◌∙◌, arith}
+use Rattle.std.proofs.Common.{◌≡◌, take, length-set, ap, ◌∙◌, arith}
 use Rattle.std.proofs.lemmas.List.{take_all}
 use Rattle.ldp_table.specs.Bands.{count_in}
 use Rattle.ldp_table.proofs.Counted.{counted, few_more, six_are}

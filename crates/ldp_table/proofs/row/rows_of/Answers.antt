@@ -1,12 +1,13 @@
-use Rattle.std.proofs.Common.{◌≡◌, ◌+◌, ◌++◌, ◌∷◌, [], ◌≤◌, length, length-append, take, Some, None, All, List, Vec, Global, ℤ, subst, sym, ap, ◌∙◌, arith}
+use Rattle.std.proofs.Common.{◌≡◌, ◌++◌, ◌∷◌, [], ◌≤◌, length, length-append, take, Some, None}
+use Rattle.std.proofs.Common.{All, List, Vec, Global, ℤ, subst, sym, ap, ◌∙◌, arith}
 use Rattle.std.proofs.lemmas.List.Elements.{All-append}
 use Rattle.std.proofs.lemmas.List.{take_all, append-nil}
 use Rattle.ldp_distortion.specs.Prepared.{distortions_of}
-use Rattle.ldp_distortion.specs.Distortion.{distortions}
 use Rattle.ldp_table.specs.declared.row.Row.{Row}
 use Rattle.ldp_table.specs.Rows.{rows_of, IsRow}
 use Rattle.ldp_table.proofs.Bounds.{small_number}
-use Rattle.ldp_table.proofs.Measured.{made_row, one_row, cell_at, rows_more, distortions_are, distortion_count, result_count}
+use Rattle.ldp_table.proofs.Measured.{made_row, one_row, cell_at, rows_more, distortions_are}
+use Rattle.ldp_table.proofs.Measured.{distortion_count, result_count}
 use Rattle.ldp_table.proofs.row.rows_of.Goals as goal
 use Rattle.ldp_table.proofs.row.rows_of.Goals.{in-Some+in_ok-push, in_default}
 
@@ -44,7 +45,8 @@ loop-i-preserved c =
       | in_default w ↦
           let same : c.match-delta.rows.items ≡ c.loop-i.rows.items =
           ap (λ (v : Vec Row Global). v.items) w.rows-is in
-          let cell = cell_at cells c.loop-i.i (omega (arith, c.loop-i-test.true, c.len-count.ensures.value)) in
+          let cell = cell_at cells c.loop-i.i
+          (omega (arith, c.loop-i-test.true, c.len-count.ensures.value)) in
           record {
             rows = same
                 ∙ (c.loop-i.invariant.rows
@@ -60,7 +62,8 @@ loop-i-preserved c =
 pub returns-clause-rows : goal.returns-clause-rows
 returns-clause-rows c =
     let cells = c.args.cells.now.cells in
-    let count : length cells ≤ c.loop-i.i = omega (arith, c.loop-i-test.false, c.len-count.ensures.value) in
+    let count : length cells ≤ c.loop-i.i =
+    omega (arith, c.loop-i-test.false, c.len-count.ensures.value) in
     let results = result_count c.args.prepared.now cells c.requires.over in
     let found : length (distortions_of c.args.prepared.now c.args.at) ≤ c.loop-i.i =
     omega (arith, distortion_count c.args.prepared.now c.args.at, results, count) in

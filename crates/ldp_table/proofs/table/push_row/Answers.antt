@@ -29,7 +29,8 @@ returns c =
     c.in_ok-push_trimmed.ensures)
     (word_held _ _ (trimmed_text 12) _ row.cell.x (small_lon row c.requires).held
     c.in_ok-push_trimmed-2.ensures)
-    (word_held _ _ (trimmed_text 3) _ row.cell.mm (kept _ _ height (small_height row c.requires).held) c.in_ok-push_trimmed-3.ensures)
+    (word_held _ _ (trimmed_text 3) _ row.cell.mm
+    (kept _ _ height (small_height row c.requires).held) c.in_ok-push_trimmed-3.ensures)
     (word_held _ _ ppm_text _ row.distortion
     (small_number row.distortion c.requires.distortion).held c.in_ok-push_ppm.ensures) h)
     c.push.ensures.ok

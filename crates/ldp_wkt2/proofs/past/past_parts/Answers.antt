@@ -1,4 +1,4 @@
-use Rattle.std.proofs.Common.{arith, sym, ◌∙◌, rules, ◌≤◌, length, [], MatchOption, ◌≡◌, None, Some, ap}
+use Rattle.std.proofs.Common.{arith, sym, ◌∙◌, []}
 use Rattle.ldp_wkt2.proofs.Fronts.{part_none, part_some, is_none}
 use Rattle.ldp_wkt2.proofs.past.past_parts.Goals as goal
 

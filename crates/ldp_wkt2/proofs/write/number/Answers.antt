@@ -1,4 +1,5 @@
-use Rattle.std.proofs.Common.{◌≡◌, ◌≤◌, ℕ, List, ℤ, to_z, of_z, unsigned_abs, IfOk, sym, ap, ◌∙◌, arith, subst}
+use Rattle.std.proofs.Common.{◌≡◌, ◌≤◌, ℕ, List, ℤ, to_z, of_z, unsigned_abs, IfOk, sym, ap, ◌∙◌}
+use Rattle.std.proofs.Common.{arith, subst}
 use Rattle.std.specs.Int.{w128}
 use Rattle.std.proofs.lemmas.Int.{ints, to_z-of_z, fits_signed_from_abs}
 use Rattle.ldp_decimal.specs.Writing.{trimmed_text}
@@ -41,7 +42,9 @@ returns c =
     ∙ ap (λ (key : Key). (range_of key c.args.crs.now.kind).places) c.key-key.ensures in
     let value : to_z w128 (of_z w128 c.value_of.result)
     ≡ value_of (row_of c.args.parameter).key c.args.crs.now =
-    is.0 ∙ (c.value_of.ensures ∙ ap (λ (key : Key). value_of key c.args.crs.now) c.key-key.ensures) in
+    is.0
+    ∙ (c.value_of.ensures
+    ∙ ap (λ (key : Key). value_of key c.args.crs.now) c.key-key.ensures) in
     subst (λ (x : List ℕ). IfOk c.write_trimmed.result (λ text. text ≡ x))
     (ap (λ (n : ℕ). trimmed_text n (to_z w128 (of_z w128 c.value_of.result))) places
     ∙ ap (λ (z : ℤ). number_text c.args.crs.now.kind c.args.parameter z) value)
