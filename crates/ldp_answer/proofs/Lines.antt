@@ -67,7 +67,7 @@ pub entries_pass : (p : Problem) (printed : Pair) (line other : ℕ) (entries : 
 entries_pass p printed line other [] at e = e
 entries_pass p printed line other (entry ∷ entries) at e =
     let h = both_none (fault_at p printed line entry at)
-        (first_fault p printed (line + 1) entries (after p.families entry at)) e in
+    (first_fault p printed (line + 1) entries (after p.families entry at)) e in
     neither (fault_at p printed other entry at)
     (first_fault p printed (other + 1) entries (after p.families entry at))
     (entry_passes p printed line other entry at h.0)

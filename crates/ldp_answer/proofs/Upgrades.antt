@@ -1,9 +1,8 @@
 -- A job that is accepted is accepted with its files named.
-use Rattle.std.proofs.Common.{◌≡◌, ◌≤◌, ℕ, Bool, true, false, List, [], ◌∷◌, length, refl, sym, ap}
+use Rattle.std.proofs.Common.{◌≡◌, ◌≤◌, ℕ, true, false, List, ◌∷◌, length, refl, sym, ap}
 use Rattle.std.proofs.Common.{◌∙◌, arith, subst, Option, Some, None, option_map}
 use Rattle.std.proofs.lemmas.Slice.Eq.{bytes_eq-Decides}
 use Rattle.std.specs.Prelude.{bytes_eq}
-use Rattle.ldp_design.specs.declared.family.Family.{Family}
 use Rattle.ldp_cells.specs.Cells.{CellList}
 use Rattle.ldp_problem.specs.Problem.{Problem}
 use Rattle.ldp_job.specs.Reading.{job}
@@ -17,15 +16,12 @@ use Rattle.ldp_design.specs.Forests.{start}
 use Rattle.ldp_check.specs.declared.reason.Reason.{Reason}
 use Rattle.ldp_check.specs.declared.verdict.Verdict.{Verdict}
 use Rattle.ldp_check.specs.declared.verdict.Verdict.TheVariants.{Accepted, Rejected}
-use Rattle.ldp_check.specs.Inputs.{other_name}
 use Rattle.ldp_check.specs.Printed.{printed, forest_line}
 use Rattle.ldp_check.specs.Verdicts.{input_differs, not_admitted, not_usable, over_differs}
 use Rattle.ldp_check.specs.Verdicts.{worst_differs, report_differs, forest_fault, first_some}
 use Rattle.ldp_check.specs.Verdicts.{reason_against, verdict_by}
 use Rattle.ldp_answer.specs.Check.{job_problem, verdict_over, named, check_text, upgrade_text}
-use Rattle.ldp_answer.specs.Check.{upgrade_over}
-use Rattle.ldp_answer.specs.Laws.{IsUpgraded, UpgradedAreAccepted}
-use Rattle.ldp_answer.specs.declared.answer.Answer.{Answer}
+use Rattle.ldp_answer.specs.Laws.{UpgradedAreAccepted}
 use Rattle.ldp_answer.proofs.Lines.{entries_pass}
 use Rattle.ldp_answer.proofs.Lengths.{entries_few}
 
@@ -112,7 +108,7 @@ upgraded_are_accepted list families names j text are is e =
     let none = accepted_none (reason_against p list names j) printed.0 in
     let passes = named_passes p list names j none in
     let accepted : verdict_over list families names (named names j) ≡ Accepted =
-        ap verdict_by passes in
+    ap verdict_by passes in
     record {
       short = subst (λ t. length t ≤ 128_000_000) (sym printed.1)
           (named_short p list names j are is passes);

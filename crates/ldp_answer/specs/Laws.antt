@@ -9,7 +9,6 @@ use Rattle.ldp_job.specs.declared.names.Names.{Names}
 use Rattle.ldp_job.specs.declared.job.Job.{Job}
 use Rattle.ldp_check.specs.declared.verdict.Verdict.TheVariants.{Accepted}
 use Rattle.ldp_answer.specs.Check.{check_text, check_over, named, upgrade_over}
-use Rattle.ldp_answer.specs.declared.answer.Answer.{Answer}
 
 -- the text of a job with its files named, in place of the job
 pub record IsUpgraded (list : CellList) (families : List Family) (names : Names) (j : Job)

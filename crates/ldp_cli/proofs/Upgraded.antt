@@ -8,19 +8,17 @@ use Rattle.ldp_io.specs.Shelf.{Files}
 use Rattle.ldp_job.specs.Reading.{job}
 use Rattle.ldp_job.specs.Values.{AreNames, IsJob}
 use Rattle.ldp_job.specs.declared.job.Job.{Job}
-use Rattle.ldp_check.specs.declared.verdict.Verdict.TheVariants.{Accepted}
 use Rattle.ldp_message.specs.declared.refusal.Refusal.{Refusal}
 use Rattle.ldp_answer.specs.Cells.{cells_read}
-use Rattle.ldp_answer.specs.Check.{named, check_text, check_over, upgrade_over}
+use Rattle.ldp_answer.specs.Check.{named, upgrade_over}
 use Rattle.ldp_answer.specs.declared.answer.Answer.{Answer}
 use Rattle.ldp_answer.proofs.Upgrades.{upgraded_are_accepted}
 use Rattle.ldp_cli.specs.Readings.{job_read}
 use Rattle.ldp_cli.specs.Files.{Gives}
 use Rattle.ldp_cli.specs.ProblemFiles.{problem_read}
 use Rattle.ldp_cli.specs.Certificate.{JobRequest, certificate_read, HaveSameFiles}
-use Rattle.ldp_cli.specs.Check.{check_answer, upgrade_answer, IsUpgraded}
+use Rattle.ldp_cli.specs.Check.{IsUpgraded}
 use Rattle.ldp_cli.specs.declared.certificate.Certificate.{Certificate}
-use Rattle.ldp_cli.specs.declared.problem_files.ProblemFiles.{ProblemFiles}
 
 bind_ok : {A B : Type 0} (first : Result A Refusal) (next : A → Result B Refusal) (b : B)
     → (first >>= next) ≡ Ok b → (a : A) × (first ≡ Ok a) × (next a ≡ Ok b)
@@ -67,7 +65,7 @@ is_upgraded asked files read text e are is printed =
       is_printed = rw e (ap Ok printed);
       is_kept = λ again later same job_is.
           let found = read_again asked again files later read (named read.names read.job) e same
-              (ap job_read job_is ∙ short_read text _ law.short law.is_read) in
+          (ap job_read job_is ∙ short_read text _ law.short law.is_read) in
           (rw found (ap Ok law.accepted), rw found (ap Ok law.same));
     }
 

@@ -149,12 +149,7 @@ pub fn take_grids<H: Shelf>(
 }
 
 /// Reads the file of a job.
-pub fn take_job<H: Shelf>(
-    alloc: Global,
-    shelf: &mut H,
-    place: u8,
-    name: &str,
-) -> Result<Job, Stop>
+pub fn take_job<H: Shelf>(alloc: Global, shelf: &mut H, place: u8, name: &str) -> Result<Job, Stop>
     requires place { place < 4 }
     requires served { IsTrue (H.serves shelf.old place name.now) }
     ensures told { IfSome (H.files shelf.old) (λ files.

@@ -26,7 +26,10 @@ impl<'a> Model for ProblemWords<'a> {
     ghost Value = { ProblemRequest };
 
     ghost view = { λ words. record {
-        zone = words.zone.now; heights = words.heights.now; grids = words.grids.now } };
+      zone = words.zone.now;
+      heights = words.heights.now;
+      grids = words.grids.now;
+    } };
 }
 
 /// What is read of the three files, with their hashes.

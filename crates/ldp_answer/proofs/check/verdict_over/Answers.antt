@@ -6,7 +6,7 @@ use Rattle.ldp_answer.proofs.check.verdict_over.Goals as goal
 pub returns-clause-verdict : goal.returns-clause-verdict
 returns-clause-verdict c =
     subst (λ p. IfOk c.check.result (λ verdict.
-        verdict ≡ verdict_of p c.args.cells.now c.args.names.now c.args.job.now))
+    verdict ≡ verdict_of p c.args.cells.now c.args.names.now c.args.job.now))
     (c.in_ok-bounds.ensures.problem
     ∙ ap (plain_problem c.args.grids.now c.args.cells.now.cells) c.tolerance_of.ensures.value)
     c.check.ensures.verdict

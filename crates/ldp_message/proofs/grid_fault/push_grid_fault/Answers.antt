@@ -2,7 +2,8 @@ use Rattle.ldp_message.proofs.grid_fault.push_grid_fault.Goals as goal
 
 pub returns-in-TooManyFamilies-clause-text : goal.returns-in-TooManyFamilies-clause-text
 returns-in-TooManyFamilies-clause-text c =
-    rw c.in-TooManyFamilies.is (rw c.from.ensures at c.push_count.ensures.text)
+    rw c.in-TooManyFamilies.is
+    (rw c.from.ensures at c.push_count.ensures.text)
 
 pub returns-in-MissingKey-clause-text : goal.returns-in-MissingKey-clause-text
 returns-in-MissingKey-clause-text c =
@@ -22,8 +23,10 @@ returns-in-StepNotPositive-clause-text c =
 
 pub returns-in-CrossesEquator-clause-text : goal.returns-in-CrossesEquator-clause-text
 returns-in-CrossesEquator-clause-text c =
-    rw c.in-CrossesEquator.is (rw c.from-in-CrossesEquator.ensures at c.push_count-in-CrossesEquator.ensures.text)
+    rw c.in-CrossesEquator.is
+    (rw c.from-in-CrossesEquator.ensures at c.push_count-in-CrossesEquator.ensures.text)
 
 pub returns-in-TooManyDesigns-clause-text : goal.returns-in-TooManyDesigns-clause-text
 returns-in-TooManyDesigns-clause-text c =
-    rw c.in-TooManyDesigns.is (rw c.from-in-TooManyDesigns.ensures at c.push_count-in-TooManyDesigns.ensures.text)
+    rw c.in-TooManyDesigns.is
+    (rw c.from-in-TooManyDesigns.ensures at c.push_count-in-TooManyDesigns.ensures.text)
