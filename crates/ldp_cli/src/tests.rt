@@ -1,1 +1,3 @@
+mod certificates;
 mod commands;
+mod inputs;
