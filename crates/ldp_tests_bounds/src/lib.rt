@@ -1,0 +1,5 @@
+//! Tests of the bounder, over public calls alone.
+#![tactic(auto)]
+
+#[cfg(test)]
+mod bounds;
