@@ -9,5 +9,4 @@ ghost use Rattle.ldp_zone.specs.declared.point.Point.{Point};
 pub fn inside_is_near()
     ensures { (rings : List (List Point)) (x y : ℤ) → IsZone rings → IsTrue (inside rings x y)
         → IsNear record { x = x; y = y } }
-{
-}
+{}
