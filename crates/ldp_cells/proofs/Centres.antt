@@ -5,7 +5,8 @@ use Rattle.std.proofs.lemmas.Int.{ints}
 use Rattle.std.proofs.Math.Nat.{add-mul-div_right}
 use Rattle.ldp_quantity.specs.Between.{IsBetween}
 use Rattle.ldp_quantity.specs.Quantity.{degrees}
-use Rattle.ldp_heights.specs.Grid.{Coordinate, corner, centre, centre_along, IsCoordinate, IsSpacing}
+use Rattle.ldp_heights.specs.Grid.{Coordinate, corner, centre, centre_along, IsCoordinate}
+use Rattle.ldp_heights.specs.Grid.{IsSpacing}
 use Rattle.ldp_heights.specs.Grid.{HeightGrid, centre_x, centre_y, IsHeightGrid}
 use Rattle.ldp_zone.specs.declared.point.Point.{Point}
 use Rattle.ldp_cells.specs.Cells as cells

@@ -12,7 +12,8 @@ use Rattle.std.proofs.lemmas.List.Sums.{sum_by_push, sum_by_more}
 use Rattle.std.proofs.lemmas.List.Folds.{list_any_more}
 use Rattle.std.proofs.lemmas.List.Sorted.{sum_by-IsPermutation}
 use Rattle.std.proofs.Math.IntN.{zero-*ℤ, *ℤ-zero}
-use Rattle.ldp_zone.specs.Inside.{edge_east, point_east, differ, spans, meets_east, crosses, between}
+use Rattle.ldp_zone.specs.Inside.{edge_east, point_east, differ, spans, meets_east, crosses}
+use Rattle.ldp_zone.specs.Inside.{between}
 use Rattle.ldp_zone.specs.Inside.{in_box, on_line, on_edge, inside_of}
 use Rattle.ldp_zone.specs.declared.point.Point.{Point}
 use Rattle.ldp_zone.specs.declared.edge.Edge.{Edge}
@@ -60,7 +61,8 @@ edge_aside row edge old h = record {
       rw (not_crossed (column_centre row column) edge (aside row.y edge.start.y edge.end.y h))
       (omega arith);
   marks = λ column within.
-      rw (off_edge (column_centre row column) edge h) (or_false (slice_index_or old.marks column false));
+      rw (off_edge (column_centre row column) edge h)
+      (or_false (slice_index_or old.marks column false));
 }
 
 -- An edge along the row.
@@ -137,7 +139,8 @@ edge_along row edge old new first end start_y end_y west east each same marks = 
 -- An edge that rises or falls.
 
 push_by : (column west : ℕ) (crossings : List ℕ) (b : Bool) → nat_lt column west ≡ b
-    → crossings_beyond column (crossings ++ west ∷ []) ≡ crossings_beyond column crossings + cond b 1 0
+    → crossings_beyond column (crossings ++ west ∷ [])
+    ≡ crossings_beyond column crossings + cond b 1 0
 push_by column west crossings b e =
     sum_by_push (λ k. cond (nat_lt column k) 1 0) crossings west
     ∙ ap (λ t. crossings_beyond column crossings + cond t 1 0) e

@@ -1,5 +1,6 @@
 -- The edges of a zone, ring by ring; and where the points of a region lie.
-use Rattle.std.proofs.Common.{◌≡◌, ℕ, ◌+◌, Bool, true, false, ◌&&◌, List, ◌∷◌, ◌++◌, drop, Some, slice_get}
+use Rattle.std.proofs.Common.{◌≡◌, ℕ, ◌+◌, Bool, true, false, ◌&&◌, List, ◌∷◌, ◌++◌, drop, Some}
+use Rattle.std.proofs.Common.{slice_get}
 use Rattle.std.proofs.Common.{int_le, pos, negsuc, refl, ap, sym, ◌∙◌, append_assoc, arith}
 use Rattle.std.proofs.lemmas.Int.{ints}
 use Rattle.std.proofs.lemmas.List.{at_drop_more}
@@ -22,7 +23,8 @@ ring_pushed rings index ring old new is pushed before =
     let rest = drop (index + 1) rings in
     let within = slice_get_within rings index ring is in
     let next = at_drop_more (λ (rs : List (List Point)). edges rs) rings index ring within in
-    let here = ap (λ (r : List Point). edges (r ∷ rest)) (get_or_from_slice_get rings index ring ring is) in
+    let here = ap (λ (r : List Point). edges (r ∷ rest))
+    (get_or_from_slice_get rings index ring ring is) in
     ap (λ (list : List Edge). list ++ edges rest) pushed
     ∙ append_assoc old (ring_edges ring) (edges rest)
     ∙ ap (λ (list : List Edge). old ++ list) (sym (next ∙ here))

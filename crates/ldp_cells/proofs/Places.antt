@@ -1,6 +1,7 @@
 -- The places of a grid, one after the other.
 use Rattle.std.proofs.Common.{◌≡◌, ℕ, suc, ◌+◌, ◌-◌, ◌*◌, ◌<◌, ◌≤◌, Bool, true, false}
-use Rattle.std.proofs.Common.{List, [], ◌∷◌, ◌++◌, length, filter, filter_map, Option, Some, None, ℤ}
+use Rattle.std.proofs.Common.{List, [], ◌∷◌, ◌++◌, length, filter, filter_map, Option, Some, None}
+use Rattle.std.proofs.Common.{ℤ}
 use Rattle.std.proofs.Common.{nat_lt, Ok, Err, if◌then◌else◌}
 use Rattle.std.proofs.Common.{refl, ap, sym, ◌∙◌, arith, append_assoc, append-nil}
 use Rattle.std.specs.List.{cons_option}

@@ -1,6 +1,8 @@
 -- The crossings beyond a column, in a list of crossings in order.
-use Rattle.std.proofs.Common.{◌≡◌, ℕ, suc, ◌+◌, ◌-◌, ◌%◌, ◌<◌, ◌≤◌, ◌==◌, Bool, true, false, cond, ◌||◌}
-use Rattle.std.proofs.Common.{nat_lt, List, [], ◌∷◌, length, take, drop, slice_index_or, slice_index}
+use Rattle.std.proofs.Common.{◌≡◌, ℕ, suc, ◌+◌, ◌-◌, ◌%◌, ◌<◌, ◌≤◌, ◌==◌, Bool, true, false, cond}
+use Rattle.std.proofs.Common.{◌||◌}
+use Rattle.std.proofs.Common.{nat_lt, List, [], ◌∷◌, length, take, drop, slice_index_or}
+use Rattle.std.proofs.Common.{slice_index}
 use Rattle.std.proofs.Common.{arith, refl, ◌∙◌}
 use Rattle.std.proofs.lemmas.Bool.{lt-ltb, le-ltb}
 use Rattle.std.proofs.Common.{◌≢◌, slice_set, below_more, get_or-set_other, get_or-set_same}
@@ -95,6 +97,7 @@ pub swept_same : (crossings : List ℕ) (old marks : List Bool) (column beyond :
 swept_same crossings old marks column beyond count swept even = record {
   done = below_more _ _ swept.done
       (let zero : beyond % 2 ≡ 0 = omega (arith, even) in
-      rw (count, zero) (swept.rest column (omega arith) ∙ or_false (slice_index_or old column false)));
+      rw (count, zero)
+      (swept.rest column (omega arith) ∙ or_false (slice_index_or old column false)));
   rest = λ k h. swept.rest k (omega arith);
 }

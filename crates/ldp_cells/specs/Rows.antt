@@ -1,6 +1,7 @@
 -- The columns of a row, and what a row is filled with, of which the private functions speak.
 use Rattle.std.specs.Prelude.{ℕ, ◌+◌, ◌*◌, ◌^◌, ◌<◌, ◌≤◌, ◌≡◌, Bool, true, false, ◌||◌, nat_lt}
-use Rattle.std.specs.Prelude.{if◌then◌else◌, int_lt, ℤ, pos, neg_ℤ, ◌+ℤ◌, ◌-ℤ◌, List, length, slice_index_or, count_by, cond}
+use Rattle.std.specs.Prelude.{if◌then◌else◌, int_lt, ℤ, pos, neg_ℤ, ◌+ℤ◌, ◌-ℤ◌, List, length}
+use Rattle.std.specs.Prelude.{slice_index_or, count_by, cond}
 use Rattle.std.specs.List.{list_any}
 use Rattle.ldp_quantity.specs.Between.{IsBetween}
 use Rattle.ldp_quantity.specs.Quantity.{degrees}

@@ -20,6 +20,7 @@ pub struct Row {
 }
 
 impl Row {
+    /// The row with this number, from 0 in the north.
     pub fn of_grid(heights: &Heights, number: u32) -> Self
         requires { number < heights.now.rows }
         ensures value { IsRowOf heights.now number result }
@@ -63,9 +64,9 @@ impl Row {
         self.columns_before(self.gap(edge), u128::from(self.spacing) * rise)
     }
 
-    #[tactic(auto, unfolding(crate::specs::Rows::gap))]
     /// How far east of the first centre the line through an edge meets the height of the row, times
     /// the edge's rise.
+    #[tactic(auto, unfolding(crate::specs::Rows::gap))]
     fn gap(&self, edge: &Edge) -> i128
         requires range { IsRow self.now }
         requires edge { IsEdge edge.now }
@@ -82,8 +83,8 @@ impl Row {
         }
     }
 
-    /// The number of columns that are less than so far from the first, where each is a step from the
-    /// one before.
+    /// The number of columns that are less than so far from the first, where each is a step from
+    /// the one before.
     pub fn columns_before(&self, distance: i128, step: u128) -> u32
         requires range { IsRow self.now }
         requires step { 1 ≤ step }

@@ -64,9 +64,11 @@ impl Tally {
         requires row { row < heights.now.rows }
         requires each { length marks.now ≡ heights.now.cols }
         requires near { (column : ℕ) → column < heights.now.cols
-            → slice_index_or marks.now column false ≡ true → IsNear (centre heights.now row column) }
+            → slice_index_or marks.now column false ≡ true
+            → IsNear (centre heights.now row column) }
         requires few { self.old.count + self.old.missing ≤ row * heights.now.cols }
-        ensures few { OnOk result (self.new.count + self.new.missing ≤ (row + 1) * heights.now.cols) }
+        ensures few { OnOk result
+            (self.new.count + self.new.missing ≤ (row + 1) * heights.now.cols) }
         ensures tally { OnOk result ((test : Point → Bool)
             → ((column : ℕ) → column < heights.now.cols
             → slice_index_or marks.now column false ≡ test (centre heights.now row column))

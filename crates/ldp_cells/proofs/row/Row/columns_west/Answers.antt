@@ -1,4 +1,5 @@
-use Rattle.std.proofs.Common.{◌≡◌, ◌≤◌, ◌*◌, ◌∙◌, ◌-ℤ◌, unsigned_abs, to_z, of_z, int_lt, pos, sym, ap, arith}
+use Rattle.std.proofs.Common.{◌≡◌, ◌≤◌, ◌*◌, ◌∙◌, ◌-ℤ◌, unsigned_abs, to_z, of_z, int_lt, pos}
+use Rattle.std.proofs.Common.{sym, ap, arith}
 use Rattle.std.specs.Int.{w128}
 use Rattle.std.proofs.lemmas.Int.{ints}
 use Rattle.ldp_cells.proofs.Columns.{apart}

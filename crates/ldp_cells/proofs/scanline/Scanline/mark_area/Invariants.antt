@@ -7,5 +7,6 @@ abbrev pub invariant-loop-column : goal.invariant-loop-column
 invariant-loop-column l = record {
   each : length l.self-inside.marks.items ≡ l.row.cols;
   tests : (column : ℕ) → column < l.column
-      → slice_index_or l.self-inside.marks.items column false ≡ in_area (column_centre l.row column);
+      → slice_index_or l.self-inside.marks.items column false
+      ≡ in_area (column_centre l.row column);
 }

@@ -1,4 +1,5 @@
-use Rattle.std.proofs.Common.{◌≡◌, ℕ, ◌<◌, ◌≤◌, max, ◌||◌, ◌&&◌, nat_le, nat_lt, false, length, slice_index_or}
+use Rattle.std.proofs.Common.{◌≡◌, ℕ, ◌<◌, ◌≤◌, max, ◌||◌, ◌&&◌, nat_le, nat_lt, false, length}
+use Rattle.std.proofs.Common.{slice_index_or}
 use Rattle.ldp_cells.proofs.scanline.Scanline.mark_columns.Given as goal
 
 abbrev pub invariant-loop-column : goal.invariant-loop-column
