@@ -1,6 +1,6 @@
 -- What is asked of a job before its design is shown: its files, and that its design is admissible.
 -- Own choice of this project.
-use Rattle.std.specs.Prelude.{ℕ, List, Option, Some, None, if◌then◌else◌}
+use Rattle.std.specs.Prelude.{List, Option, Some, None, if◌then◌else◌}
 use Rattle.ldp_design.specs.declared.family.Family.{Family}
 use Rattle.ldp_design.specs.declared.design.Design.{Design}
 use Rattle.ldp_design.specs.Families.{family_of}
