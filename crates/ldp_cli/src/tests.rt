@@ -1,3 +1,4 @@
 mod certificates;
 mod commands;
 mod inputs;
+mod tables;

@@ -1,4 +1,5 @@
-use ldp_heights::{HeightFault, Word, read_heights};
+use ldp_heights::{HeightFault, HeightReader, Heights, Word, read_heights};
+use std::alloc::Global;
 use std::test::Fail;
 
 /// Texts with their first faults.
@@ -99,5 +100,82 @@ fn centres(rt: HostRuntime) -> Result<(), Fail> {
         assert_eq!(rt; grid.mm(row, column), height);
         assert_eq!(rt; grid.centre(row, column), (x, y));
     }
+    Ok(())
+}
+
+/// The grid of the text, fed byte by byte.
+fn read_by_bytes(alloc: Global, text: &[u8]) -> Result<Heights, HeightFault> {
+    let mut reader = HeightReader::new(alloc);
+    for byte in text {
+        reader.feed(&[*byte])?;
+    }
+    reader.finish()
+}
+
+/// The grid of a text in two pieces.
+fn read_in_two(alloc: Global, first: &[u8], last: &[u8]) -> Result<Heights, HeightFault> {
+    let mut reader = HeightReader::new(alloc);
+    reader.feed(first)?;
+    reader.feed(last)?;
+    reader.finish()
+}
+
+const ONE_CELL_GRID: &[u8] = b"ncols 1\nnrows 1\nxllcenter -105\nyllcenter 40\ncellsize 1\n0\n";
+
+#[test]
+fn fed_byte_by_byte(rt: HostRuntime) -> Result<(), Fail> {
+    let grid = read_by_bytes(rt.alloc(), ONE_CELL_GRID)?;
+    assert_eq!(rt; (grid.rows(), grid.cols()), (1, 1));
+    assert_eq!(rt; grid.mm(0, 0), Some(0));
+    assert_eq!(rt;
+        grid.centre(0, 0),
+        (-105_000_000_000_000, 40_000_000_000_000)
+    );
+    Ok(())
+}
+
+/// Texts in two pieces, with their first faults.
+const CUT: [(&[u8], &[u8], HeightFault); 6] = [
+    (
+        b"ncols 2\nnrows 2\nxllcenter 0\nyllcenter 0\ncellsize 1\n1 2 3 4 ",
+        b"5\n",
+        HeightFault::Trailing(59),
+    ),
+    (b"\xef\xbb", b"\xbfdx 1", HeightFault::UnknownWord(3)),
+    (b"\xef\xbb", b"dx 1", HeightFault::UnknownWord(0)),
+    (b"ncols 2 nc", b"ols 2", HeightFault::RepeatedWord(8)),
+    (
+        b"ncols 000000000000000000000000000000000000000000000000000000000000000000400",
+        b"0001",
+        HeightFault::OutOfRange(6),
+    ),
+    (b"ncol", b"s", HeightFault::BadNumber(5)),
+];
+
+#[test]
+fn faults_of_cut_texts(rt: HostRuntime) -> Result<(), Fail> {
+    for (first, last, fault) in CUT {
+        assert_eq!(rt; read_in_two(rt.alloc(), first, last).err(), Some(fault));
+    }
+    Ok(())
+}
+
+#[test]
+fn cut_mark(rt: HostRuntime) -> Result<(), Fail> {
+    let text = b"\xbb\xbfncols 1 nrows 1 xllcenter 0 yllcenter 0 cellsize 1 7";
+    let grid = read_in_two(rt.alloc(), b"\xef", text)?;
+    assert_eq!(rt; grid.mm(0, 0), Some(7000));
+    Ok(())
+}
+
+#[test]
+fn started(rt: HostRuntime) -> Result<(), Fail> {
+    let mut reader = HeightReader::new(rt.alloc());
+    reader.feed(b"ncols 1 nrows 1 xllcenter 0 yllcenter 0 cellsize 1 7")?;
+    assert!(rt; !reader.started());
+    reader.feed(b"\n")?;
+    assert!(rt; reader.started());
+    let grid = reader.finish()?;
+    assert_eq!(rt; grid.mm(0, 0), Some(7000));
     Ok(())
 }
