@@ -36,7 +36,7 @@ pub fn run_words<H: Shelf, O: Sink, E: Sink>(
     // Where the shelf tells its files: the status and the output.
     ensures answers { IfSome (H.files shelf.old) (λ files. Answers result
         (outcome (map string_bytes words.now) files) (O.written out.old) (O.written out.new)) }
-    // What an accepted job shows.
+    // What status 0 shows.
     ensures shows { result ≡ 0 → IfSome (H.files shelf.old) (λ files.
         Shows (request (map string_bytes words.now)) files) }
     // The error output.

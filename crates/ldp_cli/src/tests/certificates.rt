@@ -121,37 +121,64 @@ fn named(alloc: Global, found: &Found) -> Result<String, Fail> {
     )?)
 }
 
+/// Runs a command that prints a text.
+fn tells(
+    rt: &impl Abort,
+    alloc: Global,
+    shelf: &mut MemoryShelf,
+    line: &str,
+    text: &str,
+) -> Result<(), Fail> {
+    let outcome = run(alloc, line, shelf)?;
+    assert_eq!(rt; outcome.out.bytes(), text.as_bytes(), "{line} {text}");
+    assert_eq!(rt;
+        (outcome.status, outcome.err.bytes().len()),
+        (0, 0),
+        "{line} {text}"
+    );
+    Ok(())
+}
+
 /// What is found is printed, is accepted, and is what `upgrade` makes of the text without names.
-#[test]
-fn certificates_are_found_and_accepted(rt: HostRuntime) -> Result<(), Fail> {
-    let alloc = rt.alloc();
-    for found in &FOUND {
-        let text = named(alloc, found)?;
-        let mut shelf = shelf_of(
-            alloc,
-            found.zone.text,
-            found.heights.text,
-            found.grids.text,
-            &text,
-        )?;
-        let line = format!(in alloc; "design zone heights grids {}", found.options)?;
-        let designed = run(alloc, &line, &mut shelf)?;
-        assert_eq!(rt; designed.out.bytes(), text.as_bytes(), "{line} {text}");
-        assert_eq!(rt;
-            (designed.status, designed.err.bytes().len()),
-            (0, 0),
-            "{line} {text}"
-        );
-        let checked = run(alloc, "check zone heights grids job", &mut shelf)?;
-        assert_eq!(rt; checked.out.bytes(), b"accepted\n".as_slice(), "{text}");
-        assert_eq!(rt; checked.status, 0, "{text}");
-        let old = format!(in alloc; "ldp job 1\n{}", found.job)?;
-        shelf.put("job", old.as_bytes())?;
-        let upgraded = run(alloc, "upgrade zone heights grids job", &mut shelf)?;
-        assert_eq!(rt; upgraded.out.bytes(), text.as_bytes(), "{text}");
-        assert_eq!(rt; upgraded.status, 0, "{text}");
+fn finds(rt: &impl Abort, alloc: Global, found: &Found) -> Result<(), Fail> {
+    let text = named(alloc, found)?;
+    let mut shelf = shelf_of(
+        alloc,
+        found.zone.text,
+        found.heights.text,
+        found.grids.text,
+        &text,
+    )?;
+    let line = format!(in alloc; "design zone heights grids {}", found.options)?;
+    tells(rt, alloc, &mut shelf, &line, &text)?;
+    tells(
+        rt,
+        alloc,
+        &mut shelf,
+        "check zone heights grids job",
+        "accepted\n",
+    )?;
+    let old = format!(in alloc; "ldp job 1\n{}", found.job)?;
+    shelf.put("job", old.as_bytes())?;
+    tells(
+        rt,
+        alloc,
+        &mut shelf,
+        "upgrade zone heights grids job",
+        &text,
+    )
+}
+
+fn finds_each(rt: &impl Abort, alloc: Global, all: &[Found]) -> Result<(), Fail> {
+    for found in all {
+        finds(rt, alloc, found)?;
     }
     Ok(())
+}
+
+#[test]
+fn certificates_are_found_and_accepted(rt: HostRuntime) -> Result<(), Fail> {
+    finds_each(&rt, rt.alloc(), &FOUND)
 }
 
 /// The problem of a user with one meridian and ten thousand million designs is solved by 69 nodes.
@@ -556,7 +583,7 @@ fn certificates_are_judged(rt: HostRuntime) -> Result<(), Fail> {
 
 /// A certificate with so many splits and one leaf more, all of whose splits are below the first.
 fn deep_job(alloc: Global, splits: u32) -> Result<String, Fail> {
-    let nodes = 2 * splits + 1;
+    let nodes = splits.saturating_mul(2).saturating_add(1);
     let mut job = format!(in alloc;
         "ldp job 1\ndesign 1 0 0 0 1\nworst 0\nkind tm\nlat 0\nlon -105\nazimuth 0\nk0 1\nppm 0.000000000\nat 0 0\ncells 1 missing 0\nnodes {nodes}\ntree 1\n"
     )?;

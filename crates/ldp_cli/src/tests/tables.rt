@@ -507,11 +507,11 @@ const USAGE_RUNS: [Run; 9] = [
 /// The job with one line replaced.
 fn with_line(alloc: Global, run: &Run) -> Result<Vec<u8>, Fail> {
     let mut text = Vec::new(alloc);
-    let mut number = 1;
+    let mut number = 1usize;
     for line in run.inputs.job.split_inclusive('\n') {
         let line = if number == run.line { run.text } else { line };
         text.extend_from_slice(line.as_bytes())?;
-        number += 1;
+        number = number.saturating_add(1);
     }
     Ok(text)
 }
