@@ -1,4 +1,1 @@
-mod certificates;
 mod commands;
-mod inputs;
-mod tables;

@@ -288,7 +288,7 @@ const FAILED_RUNS: [Run; 14] = [
 ];
 
 /// The words between blanks.
-pub fn words_of(alloc: Global, line: &str) -> Result<Vec<String>, Fail> {
+fn words_of(alloc: Global, line: &str) -> Result<Vec<String>, Fail> {
     let mut words = Vec::new(alloc);
     for word in line.split(' ').filter(|word| !word.is_empty()) {
         words.push(String::from_str(alloc, word)?)?;
