@@ -1,27 +1,8 @@
-//! `ldp`: reads the words and files of a command, and writes what it answers.
+//! `ldp`: hands the words of a command, the files and the streams to the one call that carries it
+//! out.
 #![tactic(auto)]
 
-mod certificate;
-mod check;
-mod commands;
-mod design;
-mod ending;
-mod eval;
-mod hashed;
-mod inputs;
-mod limits;
-mod pieces;
-mod problem_files;
-mod run;
-mod stop;
-mod table;
-mod take_file;
-#[cfg(test)]
-mod tests;
-mod texts;
-mod wkt;
-mod write_all;
-
+use ldp_cli::run_words;
 use ldp_io::{FileShelf, StreamSink};
 use std::env;
 use std::process::ExitCode;
@@ -39,5 +20,5 @@ fn main(rt: HostRuntime) -> ExitCode {
     let mut shelf = FileShelf::new(&rt);
     let mut out = StreamSink::new(rt.stdout());
     let mut err = StreamSink::new(rt.stderr());
-    ExitCode::from(run::run_words(rt.alloc(), &words, &mut shelf, &mut out, &mut err))
+    ExitCode::from(run_words(rt.alloc(), &words, &mut shelf, &mut out, &mut err))
 }
