@@ -27,7 +27,11 @@ impl NamedFile {
     /// Replaces the line of this number, counted from 1.
     pub fn replace_line(&mut self, number: usize, text: &str) -> Result<(), AllocError> {
         let mut bytes = Vec::new(*self.bytes.allocator());
-        for (index, line) in self.bytes.split_inclusive(|byte| *byte == b'\n').enumerate() {
+        for (index, line) in self
+            .bytes
+            .split_inclusive(|byte| *byte == b'\n')
+            .enumerate()
+        {
             if index.checked_add(1) == Some(number) {
                 bytes.extend_from_slice(text.as_bytes())?;
                 bytes.push(b'\n')?;
@@ -42,7 +46,11 @@ impl NamedFile {
     /// Keeps so many lines, the first ones.
     pub fn keep_lines(&mut self, count: usize) -> Result<(), AllocError> {
         let mut bytes = Vec::new(*self.bytes.allocator());
-        for line in self.bytes.split_inclusive(|byte| *byte == b'\n').take(count) {
+        for line in self
+            .bytes
+            .split_inclusive(|byte| *byte == b'\n')
+            .take(count)
+        {
             bytes.extend_from_slice(line)?;
         }
         self.bytes = bytes;

@@ -85,7 +85,9 @@ impl Script {
                 self.outside.pieces = [first.parse()?, out.parse()?, err.parse()?];
             }
             _ => {
-                let at = ["shelf", "out", "err"].iter().position(|name| *name == first);
+                let at = ["shelf", "out", "err"]
+                    .iter()
+                    .position(|name| *name == first);
                 let place = at.context("shelf, out or err")?;
                 let fails = self.outside.fails.get_mut(place).context("three places")?;
                 *fails = Some(second.parse()?);
