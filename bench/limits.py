@@ -15,7 +15,8 @@ from ldp_program import FAMILY, JOB, JOB_HEAD, ONE_CELL, THREE_SCALES, ZONE, pro
 
 MOST_BYTES = 128_000_000
 GIGABYTE = 1_000_000_000
-NO_MORE = 600  # seconds
+MOST_SECONDS = 600
+MOST_MEMORY = 8 * GIGABYTE
 
 
 def fill(path, text, size, blank=b" "):
@@ -121,6 +122,8 @@ def make_files(folder):
         fill(at("long_" + name), text.encode(), MOST_BYTES)
     fill(at("long_grids"), THREE_SCALES.encode(), MOST_BYTES, b"#")
     fill(at("longer"), ONE_CELL.encode(), MOST_BYTES + 1)
+    with open(at("values"), "wb") as file:
+        file.write(b"a = [" + b"0," * (MOST_BYTES // 2 - 3) + b"]")
     write(at("places"), grid(2000, 2000, "0.0005", -105.5, 39.5, 21))
     write(at("cells"), grid(500, 400, "0.001", -105.25, 39.8))
     write(at("more_cells"), grid(200_001, 1, "0.000001", -105.25, 39.8))
@@ -151,6 +154,8 @@ RUNS = [
     ("an endless certificate", ["check", *THREE, "/dev/zero"], 10, "too long job"),
     ("a zone of 128,000,000 bytes", ["design", "long_zone", "heights", "grids"], 0, "ldp job 2"),
     ("design grids of 128,000,000 bytes", ["design", "zone", "heights", "long_grids"], 0, "ldp job 2"),
+    ("design grids of 128,000,000 bytes, an array of 64,000,000 numbers",
+     ["design", "zone", "heights", "values"], 4, "refused grids UnknownKey 0 top"),
     ("a certificate of 128,000,000 bytes", ["check", *THREE, "long_job"], 4, "refused job Trailing 20"),
     ("the three longest files, and the longest certificate",
      ["check", "long_zone", "long_heights", "long_grids", "long_job"], 4, "refused job Trailing 20"),
@@ -174,12 +179,17 @@ RUNS = [
 ]
 
 
+def confine():
+    """Ends a run that takes far more than it may, so that the machine stands."""
+    resource.setrlimit(resource.RLIMIT_CPU, (MOST_SECONDS, MOST_SECONDS))
+    resource.setrlimit(resource.RLIMIT_AS, (MOST_MEMORY, MOST_MEMORY))
+
+
 def measure(path, words, folder):
     """The status, the first line, seconds on the wall and of the processor, and peak memory in bytes."""
     with tempfile.TemporaryFile() as out, tempfile.TemporaryFile() as err:
         start = time.monotonic()
-        limit = lambda: resource.setrlimit(resource.RLIMIT_CPU, (NO_MORE, NO_MORE))
-        child = subprocess.Popen([path, *words], cwd=folder, stdout=out, stderr=err, preexec_fn=limit)
+        child = subprocess.Popen([path, *words], cwd=folder, stdout=out, stderr=err, preexec_fn=confine)
         _, ended, used = os.wait4(child.pid, 0)
         wall = time.monotonic() - start
         child.returncode = os.waitstatus_to_exitcode(ended)
