@@ -61,6 +61,14 @@ def span(start, step, count):
     return f'{{ from = "{start}", step = "{step}", count = {count} }}\n'
 
 
+def each_kind():
+    """One design of each kind."""
+    yield FAMILY + 'lon = "-105"\nk0 = "1.0002"\n'
+    yield '[[family]]\nkind = "lambert"\nlat = "40"\nlon = "-105"\nk0 = "1.0002"\n'
+    yield '[[family]]\nkind = "hotine"\nlat = "40"\nlon = "-105"\nazimuth = "45"\nk0 = "1.0002"\n'
+    yield '[[family]]\nkind = "lambert2"\nlat = "39"\nlat2 = "41"\nlon = "-105"\norigin = "40"\n'
+
+
 def most_designs():
     """10^12 oblique designs."""
     yield '[[family]]\nkind = "hotine"\nlat = ' + span("39", "0.002", 1000)
@@ -138,6 +146,7 @@ def make_files(folder):
     write(at("sixteen"), [FAMILY + f'lon = "-{90 + n}"\nk0 = "1"\n' for n in range(16)])
     write(at("seventeen"), [FAMILY + f'lon = "-{90 + n}"\nk0 = "1"\n' for n in range(17)])
     write(at("scales"), [FAMILY + 'lon = "-105"\nk0 = ' + span("1.0002", "0.000001", 201)])
+    write(at("kinds"), each_kind())
     write(at("many"), most_designs())
     write(at("sixteen_many"), [piece for _ in range(16) for piece in most_designs()])
     write(at("crossed"), crossed(2))
@@ -174,6 +183,7 @@ RUNS = [
      ["design", "more_points", "heights", "grids"], 4, "refused zone TooManyPoints"),
     ("200,000 cells", ["eval", "cells", "-105", "1.0003"], 0, "cells 200000 missing 0"),
     ("200,000 cells, 201 designs", ["design", "zone", "cells", "scales"], 0, "ldp job 2"),
+    ("200,000 cells, a design of each kind", ["design", "zone", "cells", "kinds"], 0, "ldp job 2"),
     ("200,000 cells",
      ["table", "zone", "cells", "grids", "table_job"], 0, "0 0 40.199 -105.25 1500"),
     ("200,000 cells, `--json`",
@@ -207,7 +217,8 @@ def confine():
 
 
 def measure(path, words, folder):
-    """The status, the first line, seconds on the wall and of the processor, peak memory in bytes."""
+    """The status, the first line, seconds on the wall and of the processor, peak memory in bytes.
+    """
     with tempfile.TemporaryFile() as out, tempfile.TemporaryFile() as err:
         start = time.monotonic()
         child = subprocess.Popen(
