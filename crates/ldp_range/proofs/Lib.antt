@@ -5,4 +5,6 @@ pub mod Casts
 pub mod Follows
 pub mod Inclusion
 pub mod Sharpness
+pub mod Ordered
+pub mod Isotony
 pub mod Ends

@@ -4,7 +4,7 @@ use Rattle.ldp_num.specs.declared.step.Step.{Step}
 use Rattle.ldp_num.specs.Written.{Ops, number_ops, range_ops}
 use Rattle.ldp_num.specs.Steps.{results_of}
 use Rattle.ldp_num.specs.StepList.{StepList, value, value_in}
-use Rattle.ldp_range.specs.Range.{twice, LiesIn, pair_hull, magnitude, pair_low_abs, pair_high_abs}
+use Rattle.ldp_range.specs.Range.{twice, LiesIn, IsNarrower, pair_hull, magnitude, pair_low_abs, pair_high_abs}
 use Rattle.ldp_range.specs.Related.{Follows, ResultsFollow, ValuesFollow}
 
 -- Inclusion: at each point of the ranges, a list has a value wherever it has one in ranges, and
@@ -26,6 +26,15 @@ abbrev pub StepSharpness : Type 0
 StepSharpness = (steps : List Step) (points : List ℤ)
     → results_of range_ops (map twice points) steps
     ≡ option_map (map twice) (results_of number_ops points steps)
+
+-- Isotony: where a list has a value over wider ranges, it has one over narrower ranges within them,
+-- and each range of it lies within that of the wider ones.
+abbrev pub Isotony : Type 0
+Isotony = ValuesFollow IsNarrower range_ops range_ops
+
+-- the same of the results of all steps
+abbrev pub StepIsotony : Type 0
+StepIsotony = ResultsFollow IsNarrower range_ops range_ops
 
 -- Of any two types of values: where each operation of f follows that of g, so does the value of
 -- every list.

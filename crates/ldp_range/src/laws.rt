@@ -1,5 +1,6 @@
 //! The laws of ranges, for a formula as a whole, and for a range.
 ghost use Rattle.ldp_range.specs.Laws.{Inclusion, StepInclusion, Sharpness, StepSharpness, Following};
+ghost use Rattle.ldp_range.specs.Laws.{Isotony, StepIsotony};
 ghost use Rattle.ldp_range.specs.Laws.{HullHolds, AbsoluteBounds, LeastIsNatural, AbsoluteOfOne};
 
 /// A run in ranges holds each run at a point of its ranges.
@@ -12,6 +13,12 @@ pub fn inclusion()
 pub fn sharpness()
     ensures value { Sharpness }
     ensures steps { StepSharpness }
+{}
+
+/// A run over narrower ranges lies within each run over ranges that they lie in.
+pub fn isotony()
+    ensures value { Isotony }
+    ensures steps { StepIsotony }
 {}
 
 /// Two runs of one list, over values that are related step by step.
