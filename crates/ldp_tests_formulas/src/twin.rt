@@ -7,11 +7,15 @@ use std::test::Fail;
 const ONE: i128 = 1_000_000_000_000_000;
 
 // The twin of the whole numbers from a to b, and from c to d.
-fn twin(rt: &impl Abort, [a, b, c, d]: [i128; 4]) -> Twin {
-    for end in [a, b, c, d] {
-        assert!(rt; -100 <= end && end <= 100);
-    }
-    Twin::new(from_to(rt, a * ONE, b * ONE), from_to(rt, c * ONE, d * ONE))
+fn twin(rt: &impl Abort, [a, b, c, d]: [i32; 4]) -> Twin {
+    Twin::new(
+        from_to(rt, whole(a), whole(b)),
+        from_to(rt, whole(c), whole(d)),
+    )
+}
+
+fn whole(n: i32) -> i128 {
+    i128::from(n) * ONE
 }
 
 fn ends(twin: Twin) -> [i128; 4] {
@@ -108,7 +112,7 @@ fn least_absolute_values(rt: HostRuntime) {
         let twin = twin(&rt, a);
         assert_eq!(rt;
             (twin.fewest(), twin.most()),
-            (fewest * ONE, most * ONE),
+            (whole(fewest), whole(most)),
             "of {a:?}"
         );
     }
