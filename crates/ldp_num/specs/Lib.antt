@@ -8,4 +8,5 @@ pub mod Steps
 pub mod StepList
 pub mod Units
 pub mod Bench
+pub mod Again
 pub mod Laws

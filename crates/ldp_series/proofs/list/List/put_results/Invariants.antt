@@ -1,7 +1,7 @@
 use Rattle.std.proofs.Common.{◌≡◌, map, take}
 use Rattle.std.specs.Prelude.{Some}
 use Rattle.ldp_num.specs.StepList.{at_places}
-use Rattle.ldp_series.proofs.list.List.run_into.Given as goal
+use Rattle.ldp_series.proofs.list.List.put_results.Given as goal
 
 -- what the places of the results up to now hold is written
 abbrev pub invariant-loop-i : goal.invariant-loop-i
