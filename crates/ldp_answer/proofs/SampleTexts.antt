@@ -133,7 +133,7 @@ words_some j =
     omega (
       arith,
       length-append (names_words j.names) (design_words j.design ∷ worst_words j.worst j.share
-      ∷ (report_words j.report ++ forest_words j.forest)),
+          ∷ (report_words j.report ++ forest_words j.forest)),
       length-append (report_words j.report) (forest_words j.forest),
       length-append (map entry_words j.forest) ((codes "end" ∷ []) ∷ []),
     )

@@ -9,7 +9,6 @@ use Rattle.ldp_cells.specs.Cells.{CellList}
 use Rattle.ldp_job.specs.declared.names.Names.{Names}
 use Rattle.ldp_job.specs.declared.job.Job.{Job}
 use Rattle.ldp_job.specs.Texts.{job_text}
-use Rattle.ldp_check.specs.declared.verdict.Verdict.{Verdict}
 use Rattle.ldp_message.specs.Refusal.{or_refused}
 use Rattle.ldp_message.specs.declared.refusal.Refusal.{Refusal}
 use Rattle.ldp_message.specs.declared.refusal.Refusal.TheVariants as refusals

@@ -9,6 +9,7 @@ use std::alloc::Global;
 
 /// The columns and the places of the grid.
 const COLUMNS: u64 = 16;
+
 const PLACES: u64 = 192;
 
 /// The text of a grid of heights in metres, an Esri ASCII grid over degrees.
