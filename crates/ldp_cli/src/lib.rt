@@ -13,6 +13,7 @@ mod limits;
 mod pieces;
 mod problem_files;
 mod run;
+mod sample;
 mod stop;
 mod table;
 mod take_file;
