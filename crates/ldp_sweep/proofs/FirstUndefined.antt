@@ -27,7 +27,7 @@ none_undefined value cells defined =
     ∙ not_none (value cell) (defined cell h))
     (λ h. absurd (omega (arith, length-at_cells value cells))) in
     let past : nat_lt (position_or_len is_none (at_cells value cells))
-        (length (at_cells value cells))
+    (length (at_cells value cells))
     ≡ false =
     grind (arith, nat_tests, length-at_cells value cells) in
     rw past refl
