@@ -26,8 +26,9 @@ fn grow(nodes: &mut Vec<Node>, from: u32, to: u32) -> Result<(), Memory>
     ensures { OnOk result (IsGrownFrom nodes.old.items nodes.new.items from to) }
 {
     let skip = nodes.len();
+    let node = Node { from, to, skip };
     if to - from <= MOST_CELLS {
-        nodes.push(Node { from, to, skip })?;
+        nodes.push(node)?;
         return Ok(());
     }
     let part = (to - from) / 4 + 1;
@@ -37,6 +38,6 @@ fn grow(nodes: &mut Vec<Node>, from: u32, to: u32) -> Result<(), Memory>
         grow(nodes, begin, end)?;
         end = begin;
     }
-    nodes.push(Node { from, to, skip })?;
+    nodes.push(node)?;
     Ok(())
 }
