@@ -1,8 +1,8 @@
 -- The texts of a sample: the places of its grid, the lines of its certificate, and its end.
 use Rattle.std.proofs.Common.{◌≡◌, ℕ, ◌+◌, ◌<◌, ◌≤◌, ◌==◌, List, [], ◌∷◌, ◌++◌, length, map, take}
-use Rattle.std.proofs.Common.{drop, get_or, Option, None, Some, refl, sym, ap, ◌∙◌, arith, cond}
+use Rattle.std.proofs.Common.{drop, get_or, None, Some, refl, sym, ap, ◌∙◌, arith, cond}
 use Rattle.std.proofs.Common.{append_assoc, length-append, add-one, ◌*◌, ◌/◌, ◌%◌}
-use Rattle.std.specs.Prelude.{codes, decimal, MatchOption, if◌then◌else◌}
+use Rattle.std.specs.Prelude.{codes, decimal, if◌then◌else◌}
 use Rattle.std.specs.List.{flat_map, sum_by, range_with_len}
 use Rattle.std.proofs.lemmas.List.{append-nil, drop-drop, drop_more, length-drop, length-map}
 use Rattle.std.proofs.lemmas.List.{take_more, flat_map_more}

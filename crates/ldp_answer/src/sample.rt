@@ -31,8 +31,8 @@ const NO_FILES: Names = Names {
     grids: [0; 32],
 };
 
-/// What `sample` prints: the best of `number` times `number` designs over a zone of its own, and the
-/// checker's verdict on its certificate.
+/// What `sample` prints: the best of `number` times `number` designs over a zone of its own, and
+/// the checker's verdict on its certificate.
 pub fn sample_over(alloc: Global, number: u32) -> Result<Answer, WorkFault>
     requires { IsSampleNumber number }
     ensures answer { Works result (sample_over number) }
