@@ -1,6 +1,7 @@
 ghost use Rattle.std.specs.Prelude.{◌≡◌, ◌<◌, ◌≤◌, ◌^◌, pos, length, IfOk, IfErr, IfSome, Ok, Err};
 ghost use Rattle.std.specs.Prelude.{Option, option_map, unsigned_abs};
 ghost use Rattle.ldp_quantity.specs.Between.{IsBetween};
+ghost use Rattle.ldp_cells.specs.Cells.{CellList};
 ghost use Rattle.ldp_design.specs.Designs.{IsAdmitted};
 ghost use Rattle.ldp_problem.specs.Problem.{Problem};
 ghost use Rattle.ldp_problem.specs.Costs.{IsUsable, cost};
@@ -98,8 +99,28 @@ fn found_over(
         cells.now names budget)) }
 {
     let mut bounds = Plain::new(alloc, grids, cells, tolerance)?;
-    let found = search(alloc, &mut bounds, grids, budget)?;
-    let worst = worst_of(&mut bounds, &found);
+    found_by(alloc, &mut bounds, grids, budget)
+}
+
+/// The best design as the bounder tells it.
+fn found_by(
+    alloc: Global,
+    bounds: &mut Plain,
+    grids: &Grids,
+    budget: u32,
+) -> Result<Found, WorkFault>
+    requires grids { (⟦<Plain as Bounds>⟧.problem bounds.old).families ≡ grids.now }
+    requires few { budget ≤ 1_000_000 }
+    ensures found { IfOk result (IsFound (⟦<Plain as Bounds>⟧.problem bounds.old) budget) }
+    ensures admitted { IfOk result (λ f. IsAdmitted grids.now f.design) }
+    ensures cost { IfOk result (HasCost (⟦<Plain as Bounds>⟧.problem bounds.old)) }
+    ensures number { IfOk result (λ f. IsWorst f.worst) }
+    ensures refused { IfErr result (λ fault. (list : CellList) (names : Option NamesValue)
+        → Works (Err fault)
+        (search_job (⟦<Plain as Bounds>⟧.problem bounds.old) list names budget)) }
+{
+    let found = search(alloc, bounds, grids, budget)?;
+    let worst = worst_of(bounds, &found);
     Ok(Found { worst, ..found })
 }
 

@@ -1,6 +1,6 @@
 use Rattle.std.proofs.Common.{subst, sym}
 use Rattle.ldp_problem.specs.Costs.{IsUsable}
-use Rattle.ldp_answer.proofs.design.found_over.Goals as goal
+use Rattle.ldp_answer.proofs.design.found_by.Goals as goal
 
 pub worst_of-worst-requires-clause-usable : goal.worst_of-worst-requires-clause-usable
 worst_of-worst-requires-clause-usable c =
