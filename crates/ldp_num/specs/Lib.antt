@@ -2,6 +2,7 @@ pub mod Number
 pub mod Root
 pub mod Plain
 pub mod Ranges
+pub mod Twins
 pub mod Written
 pub mod Steps
 pub mod StepList
