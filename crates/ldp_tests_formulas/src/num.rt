@@ -1,6 +1,8 @@
 ghost use Rattle.ldp_num.specs.Number.{IsNumber};
 
-use ldp_num::{Bench, Fix, Num, Step, add, div, eta, mul, need, radians, sq, sqrt, sub};
+use ldp_num::{
+    Bench, Fix, Num, Step, add, dependents, div, eta, mul, need, radians, sq, sqrt, sub,
+};
 use std::test::Fail;
 
 const ONE: i128 = 1_000_000_000_000_000;
@@ -80,5 +82,27 @@ fn runs(rt: HostRuntime) -> Result<(), Fail> {
         };
         assert_eq!(rt; root, want, "of {input}");
     }
+    Ok(())
+}
+
+// The square root of x squared and y, where y alone changes: the square of x is not run again.
+#[test]
+fn runs_again(rt: HostRuntime) -> Result<(), Fail> {
+    let steps = [
+        Step::Input(0),
+        Step::Input(1),
+        Step::Sq(0),
+        Step::Add(2, 1),
+        Step::Sqrt(3),
+    ];
+    let again = dependents(rt.alloc(), &steps, 1)?;
+    assert!(rt; again.as_slice() == [1, 3, 4]);
+    let mut bench: Bench<Fix> = Bench::with_room(rt.alloc(), 5)?;
+    assert!(rt; bench.run(&steps, &[Fix { n: 3 * ONE }, Fix { n: 7 * ONE }]));
+    assert_eq!(rt; bench.at(4).n, 4 * ONE);
+    assert!(rt; bench.run_again(&steps, &[Fix { n: 3 * ONE }, Fix { n: 16 * ONE }], &again));
+    assert_eq!(rt; bench.at(4).n, 5 * ONE);
+    let defined = bench.run_again(&steps, &[Fix { n: 3 * ONE }, Fix { n: -10 * ONE }], &again);
+    assert!(rt; !defined);
     Ok(())
 }
