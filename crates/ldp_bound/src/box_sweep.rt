@@ -34,8 +34,8 @@ impl<'a> Model for BoxSweep<'a> {
     } };
 
     ghost invariant = { λ s.
-      IsSweep s.prepared.now s.stretches.now s.count s.ranges.room s.twins.room
-      × HasRanges s.prepared.now s.inputs s.twin_inputs };
+        IsSweep s.prepared.now s.stretches.now s.count s.ranges.room s.twins.room
+        × HasRanges s.prepared.now s.inputs s.twin_inputs };
 }
 
 impl<'a> BoxSweep<'a> {
@@ -100,12 +100,7 @@ impl<'a> Sweep for BoxSweep<'a> {
     }
 
     fn value(&mut self, cell: u32) -> Option<u128> {
-        Some(low_at(
-            self.prepared,
-            &mut self.ranges,
-            &mut self.inputs,
-            cell,
-        ))
+        Some(low_at(self.prepared, &mut self.ranges, &mut self.inputs, cell))
     }
 
     fn span(&mut self, at: usize) -> Option<Span> {

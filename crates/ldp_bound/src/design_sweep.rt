@@ -34,8 +34,8 @@ impl<'a> Model for DesignSweep<'a> {
     } };
 
     ghost invariant = { λ s.
-      IsSweep s.prepared.now s.stretches.now s.count s.numbers.room s.twins.room
-      × HasNumbers s.prepared.now s.inputs s.twin_inputs };
+        IsSweep s.prepared.now s.stretches.now s.count s.numbers.room s.twins.room
+        × HasNumbers s.prepared.now s.inputs s.twin_inputs };
 }
 
 impl<'a> DesignSweep<'a> {
@@ -100,12 +100,7 @@ impl<'a> Sweep for DesignSweep<'a> {
     }
 
     fn value(&mut self, cell: u32) -> Option<u128> {
-        size_at(
-            self.prepared,
-            &mut self.numbers,
-            &mut self.inputs,
-            cell,
-        )
+        size_at(self.prepared, &mut self.numbers, &mut self.inputs, cell)
     }
 
     fn span(&mut self, at: usize) -> Option<Span> {

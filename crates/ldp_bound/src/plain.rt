@@ -81,8 +81,12 @@ impl Bounds for Plain {
             unreachable!();
         };
         if is_single(b) {
-            let (cost, benches) =
-                cost_by_stretches(&self.kept, benches, self.hints.cells(), &first_of(b));
+            let (cost, benches) = cost_by_stretches(
+                &self.kept,
+                benches,
+                self.hints.cells(),
+                &first_of(b),
+            );
             self.benches = Some(benches);
             return bound_of_single(cost);
         }

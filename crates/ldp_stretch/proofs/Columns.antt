@@ -43,7 +43,7 @@ column_more rows from place cell number old new known is whole k low high =
           number = found.number;
           is = found.is;
           lies = subst (LiesIn found.number) (sym whole)
-            (hull-holds found.number old (twice number) (inl found.lies));
+              (hull-holds found.number old (twice number) (inl found.lies));
         }
     by_place (inr after) =
         let here : cell ≡ k = omega arith in
@@ -52,7 +52,7 @@ column_more rows from place cell number old new known is whole k low high =
           number = number;
           is = is;
           lies = subst (LiesIn number) (sym whole)
-            (hull-holds number old (twice number) (inr (own_number number)));
+              (hull-holds number old (twice number) (inr (own_number number)));
         })
 
 -- one more range of a hull

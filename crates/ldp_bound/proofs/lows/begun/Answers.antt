@@ -18,7 +18,7 @@ returns-then-not-put_box-clause-none c =
     let families = c.args.kept.now.grids in
     let kinds = c.args.kept.now.kinds in
     let set : Some c.prepared.result.now
-        ≡ option_and_then (family_set kinds) (family_of families c.args.b.now.family) =
+    ≡ option_and_then (family_set kinds) (family_of families c.args.b.now.family) =
     ap Some c.prepared.ensures ∙ c.in_ok-stretched.ensures.set in
     λ cell.
     undefined_low families kinds c.args.b.now c.requires.lies.family c.prepared.result.now
@@ -31,7 +31,7 @@ returns-clause-tells c =
     let families = c.args.kept.now.grids in
     let kinds = c.args.kept.now.kinds in
     let set : Some c.prepared.result.now
-        ≡ option_and_then (family_set kinds) (family_of families c.args.b.now.family) =
+    ≡ option_and_then (family_set kinds) (family_of families c.args.b.now.family) =
     ap Some c.prepared.ensures ∙ c.in_ok-stretched.ensures.set in
     subst (λ (p : PreparedCells). TellsBox families kinds c.args.b.now p c.put_box.new.inputs)
     c.prepared.ensures

@@ -18,7 +18,7 @@ returns-then-not-put_design-clause-none c =
     let families = c.args.kept.now.grids in
     let kinds = c.args.kept.now.kinds in
     let set : Some c.prepared.result.now
-        ≡ option_and_then (family_set kinds) (family_of families c.args.d.now.family) =
+    ≡ option_and_then (family_set kinds) (family_of families c.args.d.now.family) =
     ap Some c.prepared.ensures ∙ c.in_ok-stretched.ensures.set in
     λ cell.
     undefined_size families kinds c.args.d.now c.requires.admitted.family c.prepared.result.now
@@ -30,7 +30,7 @@ returns-clause-tells c =
     let families = c.args.kept.now.grids in
     let kinds = c.args.kept.now.kinds in
     let set : Some c.prepared.result.now
-        ≡ option_and_then (family_set kinds) (family_of families c.args.d.now.family) =
+    ≡ option_and_then (family_set kinds) (family_of families c.args.d.now.family) =
     ap Some c.prepared.ensures ∙ c.in_ok-stretched.ensures.set in
     subst (λ (p : PreparedCells). TellsDesign families kinds c.args.d.now p c.put_design.new.inputs)
     c.prepared.ensures

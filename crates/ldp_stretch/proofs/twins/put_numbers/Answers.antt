@@ -10,7 +10,7 @@ use Rattle.ldp_stretch.proofs.twins.put_numbers.Goals as goal
 pub loop-i-preserved : goal.loop-i-preserved
 loop-i-preserved c =
     pairwise_next (λ (a : Fix) (t : TwinPair). IsHeld (twice a.n) t) c.args.numbers.now
-    c.loop-i.twins c.loop-i.i c.index-numbers-i.result c.of_number.result 
+    c.loop-i.twins c.loop-i.i c.index-numbers-i.result c.of_number.result
     (slice_get_read c.args.numbers.now (length c.args.numbers.now) c.loop-i.i c.index-numbers-i.result
     refl (omega arith) c.index-numbers-i.is)
     (omega arith) c.of_number.ensures c.loop-i.invariant
