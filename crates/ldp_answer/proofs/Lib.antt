@@ -3,4 +3,3 @@ mod Lengths
 pub mod Upgrades
 mod Found
 mod Designs
-mod SampleTexts

@@ -10,5 +10,3 @@ pub mod Wkt
 pub mod Table
 pub mod Laws
 pub mod Design
-pub mod SampleInputs
-pub mod Sample

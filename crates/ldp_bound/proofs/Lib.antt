@@ -7,4 +7,3 @@ mod Cells
 mod Kepts
 mod Loops
 mod Told
-mod Sweeps

@@ -3,4 +3,3 @@ pub mod Plain
 pub mod Kept
 pub mod Tally
 pub mod Laws
-pub mod Sweeps

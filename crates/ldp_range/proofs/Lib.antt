@@ -5,10 +5,4 @@ pub mod Casts
 pub mod Follows
 pub mod Inclusion
 pub mod Sharpness
-pub mod Ordered
-pub mod Isotony
-pub mod Signs
-pub mod Held
-pub mod Bounds
-pub mod Unlisted
 pub mod Ends

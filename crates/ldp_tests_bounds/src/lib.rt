@@ -3,5 +3,3 @@
 
 #[cfg(test)]
 mod bounds;
-#[cfg(test)]
-mod stretches;

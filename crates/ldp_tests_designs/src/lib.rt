@@ -6,5 +6,3 @@
 mod cells;
 #[cfg(test)]
 mod design;
-#[cfg(test)]
-mod filled_rows;

@@ -16,5 +16,3 @@ mod projections;
 mod range;
 #[cfg(test)]
 mod series;
-#[cfg(test)]
-mod twin;

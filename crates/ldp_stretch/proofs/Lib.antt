@@ -1,4 +1,0 @@
-mod Lists
-mod Columns
-mod TwinRuns
-mod Spans

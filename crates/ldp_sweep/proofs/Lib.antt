@@ -1,4 +1,0 @@
-mod Values
-mod FirstUndefined
-mod Tallies
-mod Nodes

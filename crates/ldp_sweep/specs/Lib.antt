@@ -1,4 +1,0 @@
-pub mod Cut
-pub mod Tally
-pub mod Peaks
-pub mod Grown
