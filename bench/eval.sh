@@ -1,9 +1,9 @@
 #!/usr/bin/env bash
 # Wall time and peak memory of `eval` on a grid of 447 x 447 cells, and on one of 4,000,000 places of which one in 21 has a height.
-# Build the program first: (cd crates/ldp_cli && rt run -- eval data/one_cell.asc -105 1)
+# Build the program first: (cd crates/ldp && rt run -- eval ../../examples/front_range.asc -105 1)
 set -eu
 here=$(cd "$(dirname "$0")" && pwd)
-program=$here/../crates/ldp_cli/out/ldp_cli
+program=$here/../crates/ldp/out/ldp
 folder=$(mktemp -d)
 trap 'rm -rf "$folder"' EXIT
 python3 "$here/make_grid.py" 447 447 0.002 1 > "$folder/cells.asc"

@@ -1,6 +1,6 @@
 -- The certificate of the design that a search has found, and the answer.
 use Rattle.std.proofs.Common.{◌≡◌, ◌≤◌, ◌<◌, ◌^◌, ℕ, ℤ, pos, false, List, length, arith, refl}
-use Rattle.std.proofs.Common.{Option, None, Some, Ok, Err, IfSome, sym, ap, subst, ◌∙◌, inr}
+use Rattle.std.proofs.Common.{Option, None, Some, Ok, Err, IfSome, sym, ap, subst, ◌∙◌, inl, inr, []}
 use Rattle.std.proofs.lemmas.Bool.Decides.{nat_tests}
 use Rattle.std.proofs.lemmas.Int.{ints}
 use Rattle.std.specs.Prelude.{option_map, unsigned_abs, nat_lt, if◌then◌else◌}
@@ -13,7 +13,6 @@ use Rattle.ldp_problem.specs.Costs.{cost, worst_cell}
 use Rattle.ldp_job.specs.declared.names.Names.{Names}
 use Rattle.ldp_job.specs.declared.job.Job.{Job}
 use Rattle.ldp_job.specs.Values.{IsJob}
-use Rattle.ldp_job.specs.Texts.{job_text}
 use Rattle.ldp_check.specs.Reports.{report_of}
 use Rattle.ldp_check.specs.Verdicts.{verdict_of}
 use Rattle.ldp_check.specs.declared.verdict.Verdict.TheVariants.{Accepted}
@@ -29,15 +28,15 @@ use Rattle.ldp_agreement.proofs.Certificates.{best_are_accepted}
 use Rattle.ldp_agreement.proofs.Texts.{best_have_texts, best_are_read_back}
 use Rattle.ldp_message.specs.declared.refusal.Refusal.TheVariants.{BudgetSpent}
 use Rattle.ldp_answer.specs.Check.{tolerance_of}
-use Rattle.ldp_answer.specs.Design.{certificate, job_answer, answer_with, best_answer, search_answer}
-use Rattle.ldp_answer.specs.Design.{share_with, IsAcceptedText}
+use Rattle.ldp_answer.specs.Design.{certificate, certificate_with, best_certificate, search_job}
+use Rattle.ldp_answer.specs.Design.{share_with, AreNamed, IsAcceptedJob}
 
 -- what is known of the job that is printed
-pub record IsPrinted (p : Problem) (list : CellList) (names : Names) (tolerance : Option ℤ)
+pub record IsPrinted (p : Problem) (list : CellList) (names : Option Names) (tolerance : Option ℤ)
     (budget : ℕ) (f : Found) (j : Job) : Type 0 where
   pub found : IsFound p budget f
   pub cost : HasCost p f
-  pub names_are : j.names ≡ Some names
+  pub names_are : j.names ≡ names
   pub design : j.design ≡ f.design
   pub worst : j.worst ≡ f.worst
   pub share : j.share ≡ share_with tolerance f.over
@@ -57,13 +56,14 @@ shares_agree (Some t) over h =
     let same : t ≡ pos (unsigned_abs t) = omega (arith, ints, h.0) in
     ap (λ z. Some record { over = over; tolerance = z }) same
 
-pub is_certificate : (p : Problem) (list : CellList) (names : Names) (tolerance : Option ℤ) (budget : ℕ)
-    (f : Found) (j : Job) → IsPrinted p list names tolerance budget f j
+pub is_certificate : (p : Problem) (list : CellList) (names : Option Names) (present : Names)
+    (tolerance : Option ℤ) (budget : ℕ) (f : Found) (j : Job)
+    → IsPrinted p list names tolerance budget f j → AreNamed names present
     → IfSome tolerance (IsBetween (pos 0) (pos (10 ^ 15)))
     → p.tolerance ≡ option_map unsigned_abs tolerance
-    → IsCertificateOf p list names (record { design = f.design; cost = cost p f.design }) j
-is_certificate p list names tolerance budget f j h within e = record {
-  names = inr h.names_are;
+    → IsCertificateOf p list present (record { design = f.design; cost = cost p f.design }) j
+is_certificate p list names present tolerance budget f j h named within e = record {
+  names = subst (λ n. AreNamed n present) (sym h.names_are) named;
   design = h.design;
   worst = h.worst ∙ h.cost.worst;
   share = h.share ∙ shares_agree tolerance f.over within
@@ -79,23 +79,34 @@ is_certificate p list names tolerance budget f j h within e = record {
 }
 
 -- the job is the certificate
-same_job : (p : Problem) (list : CellList) (names : Names) (x : Ranked) (j : Job)
-    → IsCertificateOf p list names x j → j.names ≡ Some names → certificate p names x j.report ≡ j
-same_job p list names x j c named =
+same_job : (p : Problem) (list : CellList) (names : Option Names) (present : Names) (x : Ranked)
+    (j : Job) → IsCertificateOf p list present x j → j.names ≡ names
+    → certificate p names x j.report ≡ j
+same_job p list names present x j c named =
     rw (sym named, sym c.design, sym c.worst, sym c.share, sym c.forest) refl
 
 enough : (budget n : ℕ) → n ≤ budget → nat_lt budget n ≡ false
 enough budget n h = grind (arith, nat_tests)
 
-pub answer_is : (p : Problem) (list : CellList) (names : Names) (budget : ℕ) (x : Ranked) (j : Job)
-    → best p ≡ Some x → needed p ≤ budget → IsCertificateOf p list names x j → j.names ≡ Some names
-    → search_answer p list names budget ≡ Ok (job_answer j)
-answer_is p list names budget x j is h c named =
-    ap (λ t. if t then Err (BudgetSpent budget) else best_answer p list names (best p))
+pub job_is : (p : Problem) (list : CellList) (names : Option Names) (present : Names) (budget : ℕ)
+    (x : Ranked) (j : Job)
+    → best p ≡ Some x → needed p ≤ budget → IsCertificateOf p list present x j → j.names ≡ names
+    → search_job p list names budget ≡ Ok j
+job_is p list names present budget x j is h c named =
+    ap (λ t. if t then Err (BudgetSpent budget) else best_certificate p list names (best p))
     (enough budget (needed p) h)
-    ∙ ap (best_answer p list names) is
-    ∙ ap (answer_with p names x) c.report
-    ∙ ap (λ q. Ok (job_answer q)) (same_job p list names x j c named)
+    ∙ ap (best_certificate p list names) is
+    ∙ ap (certificate_with p names x) c.report
+    ∙ ap Ok (same_job p list names present x j c named)
+
+-- files that a job names, and any where it names none
+abbrev present_of : Option Names → Names
+present_of None = record { zone = []; heights = []; grids = [] }
+present_of (Some names) = names
+
+named_so : (names : Option Names) → AreNamed names (present_of names)
+named_so None = inl refl
+named_so (Some names) = inr refl
 
 printable : (families : List Family) (list : CellList) (tolerance : Option ℤ) (budget : ℕ)
     → AreGrids families → 0 < length list.cells → length list.cells ≤ 200_000
@@ -123,7 +134,7 @@ tolerance_again None over = refl
 tolerance_again (Some t) over = refl
 
 -- what is known where the job is printed
-pub record IsKnown (families : List Family) (list : CellList) (names : Names)
+pub record IsKnown (families : List Family) (list : CellList) (names : Option Names)
     (tolerance : Option ℤ) (budget : ℕ) (f : Found) (j : Job) : Type 0 where
   pub grids : AreGrids families
   pub some : 0 < length list.cells
@@ -134,7 +145,7 @@ pub record IsKnown (families : List Family) (list : CellList) (names : Names)
       list names tolerance budget f j
   pub values : AreValues j
 
-module _ (families : List Family) (list : CellList) (names : Names) (tolerance : Option ℤ)
+module _ (families : List Family) (list : CellList) (names : Option Names) (tolerance : Option ℤ)
     (budget : ℕ) (f : Found) (j : Job) (h : IsKnown families list names tolerance budget f j) where
   abbrev problem : Problem
   problem = plain_problem families list.cells (option_map unsigned_abs tolerance)
@@ -142,8 +153,10 @@ module _ (families : List Family) (list : CellList) (names : Names) (tolerance :
   abbrev best_of : Ranked
   best_of = record { design = f.design; cost = cost problem f.design }
 
-  certified : IsCertificateOf problem list names best_of j
-  certified = is_certificate problem list names tolerance budget f j h.printed h.within refl
+  certified : (present : Names) → AreNamed names present
+      → IsCertificateOf problem list present best_of j
+  certified present named =
+      is_certificate problem list names present tolerance budget f j h.printed named h.within refl
 
   prints : IsPrintable problem
   prints =
@@ -152,28 +165,29 @@ module _ (families : List Family) (list : CellList) (names : Names) (tolerance :
 
   pub has_text : IsJob j
   has_text =
-      best_have_texts problem list names best_of j prints h.values h.printed.found.best certified
+      best_have_texts problem list (present_of names) best_of j prints h.values
+      h.printed.found.best (certified (present_of names) (named_so names))
 
-  pub answered : search_answer problem list names budget ≡ Ok (job_answer j)
-  answered =
-      answer_is problem list names budget best_of j h.printed.found.best h.printed.found.enough
-      certified h.printed.names_are
+  pub found_job : search_job problem list names budget ≡ Ok j
+  found_job =
+      job_is problem list names (present_of names) budget best_of j h.printed.found.best
+      h.printed.found.enough (certified (present_of names) (named_so names)) h.printed.names_are
 
   same_tolerance : tolerance_of j.share ≡ option_map unsigned_abs tolerance
   same_tolerance = ap tolerance_of h.printed.share ∙ tolerance_again tolerance f.over
 
-  pub accepted_text : IsAcceptedText list families names (job_text j)
-  accepted_text =
-      let back = best_are_read_back problem list names best_of j prints h.values
-      h.printed.found.best certified in
+  pub accepted_job : (present : Names) → AreNamed names present
+      → IsAcceptedJob list families present j
+  accepted_job present named =
+      let back = best_are_read_back problem list present best_of j prints h.values
+      h.printed.found.best (certified present named) in
       record {
-        accepted = j;
-        read = back.0;
         verdict = subst
-            (λ t. verdict_of (plain_problem families list.cells t) list names j ≡ Accepted)
+            (λ t. verdict_of (plain_problem families list.cells t) list present j ≡ Accepted)
             (sym same_tolerance)
-            (best_are_accepted problem list names best_of j
+            (best_are_accepted problem list present best_of j
             (plain_sound families list.cells (option_map unsigned_abs tolerance) h.grids h.some)
-            h.grids h.printed.found.best certified);
+            h.grids h.printed.found.best (certified present named));
+        read = back.0;
         short = back.1;
       }

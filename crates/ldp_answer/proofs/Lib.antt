@@ -3,3 +3,4 @@ mod Lengths
 pub mod Upgrades
 mod Found
 mod Designs
+mod SampleTexts

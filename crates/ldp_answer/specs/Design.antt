@@ -1,7 +1,8 @@
 -- What `design` answers over cells and design grids. Own choice of this project.
-use Rattle.std.specs.Prelude.{◌≡◌, ◌≤◌, ℕ, ℤ, pos, nat_lt, List, length, false, Option, Some, None}
+use Rattle.std.specs.Prelude.{◌≡◌, ◌≤◌, ◌⊎◌, ℕ, ℤ, pos, nat_lt, List, length, false, Option, Some, None}
 use Rattle.std.specs.Prelude.{option_map, Result, Ok, Err}
 use Rattle.std.specs.Prelude.{if◌then◌else◌}
+use Rattle.ldp_quantity.specs.Results.{◌>>=◌}
 use Rattle.ldp_design.specs.declared.family.Family.{Family}
 use Rattle.ldp_cells.specs.Cells.{CellList}
 use Rattle.ldp_problem.specs.Problem.{Problem}
@@ -23,11 +24,11 @@ use Rattle.ldp_message.specs.declared.refusal.Refusal.TheVariants as refusals
 use Rattle.ldp_answer.specs.Check.{verdict_over}
 use Rattle.ldp_answer.specs.declared.answer.Answer.{Answer}
 
--- the certificate of a design with its cost and its report: the hashes of the three files, and the
--- canonical forest
-abbrev pub certificate : Problem → Names → Ranked → Report → Job
+-- the certificate of a design with its cost and its report: the hashes of the three files or none,
+-- and the canonical forest
+abbrev pub certificate : Problem → Option Names → Ranked → Report → Job
 certificate p names x report = record {
-  names = Some names;
+  names = names;
   design = x.design;
   worst = pos x.cost.value;
   share = share_of p.tolerance x.cost.over;
@@ -35,35 +36,53 @@ certificate p names x report = record {
   forest = forest p;
 }
 
+-- the certificate with a report; that of the best design is there
+abbrev pub certificate_with : Problem → Option Names → Ranked → Option Report → Result Job Refusal
+certificate_with p names x (Some report) = Ok (certificate p names x report)
+certificate_with p names x None = Err refusals.NoUsableDesign
+
+-- the certificate of the best design, if there is one: its report is that of the first cell of its
+-- worst distortion, with the number of nodes of the forest
+abbrev pub best_certificate : Problem → CellList → Option Names → Option Ranked → Result Job Refusal
+best_certificate p list names (Some x) =
+    certificate_with p names x
+    (report_of p.families list x.design (pos x.cost.value) (worst_cell p x.design) (needed p))
+best_certificate p list names None = Err refusals.NoUsableDesign
+
+-- the certificate that a search with this budget finds
+abbrev pub search_job : Problem → CellList → Option Names → ℕ → Result Job Refusal
+search_job p list names budget =
+    if nat_lt budget (needed p) then Err (refusals.BudgetSpent budget)
+    else best_certificate p list names (best p)
+
+-- the same over cells and design grids
+abbrev pub job_over : CellList → List Family → Option Names → ℕ → Option ℕ → Result Job Refusal
+job_over list families names budget tolerance =
+    search_job (plain_problem families list.cells tolerance) list names budget
+
 abbrev pub job_answer : Job → Answer
 job_answer j = record { rejected = false; text = job_text j }
 
--- the answer with a report; that of the best design is there
-abbrev pub answer_with : Problem → Names → Ranked → Option Report → Result Answer Refusal
-answer_with p names x (Some report) = Ok (job_answer (certificate p names x report))
-answer_with p names x None = Err refusals.NoUsableDesign
-
--- the answer for the best design, if there is one: its report is that of the first cell of its
--- worst distortion, with the number of nodes of the forest
-abbrev pub best_answer : Problem → CellList → Names → Option Ranked → Result Answer Refusal
-best_answer p list names (Some x) =
-    answer_with p names x
-    (report_of p.families list x.design (pos x.cost.value) (worst_cell p x.design) (needed p))
-best_answer p list names None = Err refusals.NoUsableDesign
-
--- the answer of a search with this budget
-abbrev pub search_answer : Problem → CellList → Names → ℕ → Result Answer Refusal
-search_answer p list names budget =
-    if nat_lt budget (needed p) then Err (refusals.BudgetSpent budget)
-    else best_answer p list names (best p)
-
+-- the text of the certificate, which names its files
 abbrev pub design_over : CellList → List Family → Names → ℕ → Option ℕ → Result Answer Refusal
-design_over list families names budget tolerance =
-    search_answer (plain_problem families list.cells tolerance) list names budget
+design_over list families names budget tolerance = do
+  j ← job_over list families (Some names) budget tolerance
+  Ok (job_answer j)
 
 -- where cells beyond a tolerance are counted, their number and the tolerance
 abbrev pub share_with : Option ℤ → ℕ → Option Share
 share_with tolerance over = option_map (λ t. record { over = over; tolerance = t }) tolerance
+
+-- the files that are present are those of a job's names, or it has none
+abbrev pub AreNamed : Option Names → Names → Type 0
+AreNamed names present = (names ≡ None) ⊎ (names ≡ Some present)
+
+-- the checker accepts the job over these cells, grids and hashes
+pub record IsAcceptedJob (list : CellList) (families : List Family) (present : Names)
+    (j : Job) : Type 0 where
+  pub verdict : verdict_over list families present j ≡ Accepted
+  pub read : job (job_text j) ≡ Ok j
+  pub short : length (job_text j) ≤ 128_000_000
 
 -- the text is that of a job that the checker accepts over the same cells, grids and hashes, and it
 -- is short enough for a file

@@ -10,3 +10,5 @@ pub mod Wkt
 pub mod Table
 pub mod Laws
 pub mod Design
+pub mod SampleInputs
+pub mod Sample

@@ -1,19 +1,19 @@
-ghost use Rattle.std.specs.Prelude.{◌≡◌, ◌<◌, ◌≤◌, ◌^◌, pos, length, IfOk, IfErr, IfSome, Some, Ok, Err};
-ghost use Rattle.std.specs.Prelude.{option_map, unsigned_abs};
+ghost use Rattle.std.specs.Prelude.{◌≡◌, ◌<◌, ◌≤◌, ◌^◌, pos, length, IfOk, IfErr, IfSome, Ok, Err};
+ghost use Rattle.std.specs.Prelude.{Option, option_map, unsigned_abs};
 ghost use Rattle.ldp_quantity.specs.Between.{IsBetween};
+ghost use Rattle.ldp_cells.specs.Cells.{CellList};
 ghost use Rattle.ldp_design.specs.Designs.{IsAdmitted};
 ghost use Rattle.ldp_problem.specs.Problem.{Problem};
 ghost use Rattle.ldp_problem.specs.Costs.{IsUsable, cost};
 ghost use Rattle.ldp_job.specs.Values.{AreNames, IsWorst, IsJob};
-ghost use Rattle.ldp_job.specs.Texts.{job_text};
 ghost use Rattle.ldp_job.specs.declared.names.Names.{Names as NamesValue};
 ghost use Rattle.ldp_check.specs.Reports.{report_of};
 ghost use Rattle.ldp_bound.specs.Plain.{plain_problem};
 ghost use Rattle.ldp_search.specs.Search.{IsFound, HasCost};
 ghost use Rattle.ldp_agreement.specs.Texts.{AreValues};
 ghost use Rattle.ldp_answer.specs.Works.{Works};
-ghost use Rattle.ldp_answer.specs.Design.{search_answer, design_over, share_with};
-ghost use Rattle.ldp_answer.specs.Design.{job_answer, IsAcceptedText};
+ghost use Rattle.ldp_answer.specs.Design.{search_job, job_over, design_over, share_with};
+ghost use Rattle.ldp_answer.specs.Design.{AreNamed, IsAcceptedJob, IsAcceptedText};
 
 use crate::answer::Answer;
 use crate::fault::WorkFault;
@@ -45,13 +45,36 @@ pub fn design_over(
     ensures accepted { IfOk result (λ answer.
         IsAcceptedText cells.now grids.now names.now answer.text) }
 {
-    let found = found_over(alloc, cells, grids, budget, tolerance)?;
-    let job = certificate(cells, grids, names, budget, tolerance, found);
+    let job = job_over(alloc, cells, grids, Some(*names), budget, tolerance)?;
     let text = write_job(alloc, &job)?;
     Ok(Answer {
         rejected: false,
         text,
     })
+}
+
+/// The certificate of the best design, which names these files or none. The limits are those of
+/// `design_over`.
+pub fn job_over(
+    alloc: Global,
+    cells: &Cells,
+    grids: &Grids,
+    names: Option<Names>,
+    budget: u32,
+    tolerance: Option<i128>,
+) -> Result<Job, WorkFault>
+    requires some { 0 < length cells.now.cells }
+    requires names { IfSome names AreNames }
+    requires few { budget ≤ 1_000_000 }
+    requires tolerance { IfSome tolerance (IsBetween (pos 0) (pos (10 ^ 15))) }
+    ensures job { Works result (job_over cells.now grids.now names budget
+        (option_map unsigned_abs tolerance)) }
+    ensures valid { IfOk result IsJob }
+    ensures accepted { IfOk result (λ job. (present : NamesValue) → AreNamed names present
+        → IsAcceptedJob cells.now grids.now present job) }
+{
+    let found = found_over(alloc, cells, grids, budget, tolerance)?;
+    Ok(certificate(cells, grids, names, budget, tolerance, found))
 }
 
 /// The best design over the ranges of the projections.
@@ -71,13 +94,33 @@ fn found_over(
     ensures cost { IfOk result (HasCost
         (plain_problem grids.now cells.now.cells (option_map unsigned_abs tolerance))) }
     ensures number { IfOk result (λ f. IsWorst f.worst) }
-    ensures refused { IfErr result (λ fault. (names : NamesValue) → Works (Err fault) (search_answer
+    ensures refused { IfErr result (λ fault. (names : Option NamesValue) → Works (Err fault) (search_job
         (plain_problem grids.now cells.now.cells (option_map unsigned_abs tolerance))
         cells.now names budget)) }
 {
     let mut bounds = Plain::new(alloc, grids, cells, tolerance)?;
-    let found = search(alloc, &mut bounds, grids, budget)?;
-    let worst = worst_of(&mut bounds, &found);
+    found_by(alloc, &mut bounds, grids, budget)
+}
+
+/// The best design as the bounder tells it.
+fn found_by(
+    alloc: Global,
+    bounds: &mut Plain,
+    grids: &Grids,
+    budget: u32,
+) -> Result<Found, WorkFault>
+    requires grids { (⟦<Plain as Bounds>⟧.problem bounds.old).families ≡ grids.now }
+    requires few { budget ≤ 1_000_000 }
+    ensures found { IfOk result (IsFound (⟦<Plain as Bounds>⟧.problem bounds.old) budget) }
+    ensures admitted { IfOk result (λ f. IsAdmitted grids.now f.design) }
+    ensures cost { IfOk result (HasCost (⟦<Plain as Bounds>⟧.problem bounds.old)) }
+    ensures number { IfOk result (λ f. IsWorst f.worst) }
+    ensures refused { IfErr result (λ fault. (list : CellList) (names : Option NamesValue)
+        → Works (Err fault)
+        (search_job (⟦<Plain as Bounds>⟧.problem bounds.old) list names budget)) }
+{
+    let found = search(alloc, bounds, grids, budget)?;
+    let worst = worst_of(bounds, &found);
     Ok(Found { worst, ..found })
 }
 
@@ -99,13 +142,13 @@ fn worst_of(bounds: &mut Plain, found: &Found) -> i128
 fn certificate(
     cells: &Cells,
     grids: &Grids,
-    names: &Names,
+    names: Option<Names>,
     budget: u32,
     tolerance: Option<i128>,
     found: Found,
 ) -> Job
     requires some { 0 < length cells.now.cells }
-    requires names { AreNames names.now }
+    requires names { IfSome names AreNames }
     requires few { budget ≤ 1_000_000 }
     requires tolerance { IfSome tolerance (IsBetween (pos 0) (pos (10 ^ 15))) }
     requires found { IsFound
@@ -114,10 +157,11 @@ fn certificate(
     requires cost { HasCost
         (plain_problem grids.now cells.now.cells (option_map unsigned_abs tolerance)) found }
     requires number { IsWorst found.worst }
+    ensures job { job_over cells.now grids.now names budget (option_map unsigned_abs tolerance)
+        ≡ Ok result }
     ensures valid { IsJob result }
-    ensures answer { design_over cells.now grids.now names.now budget
-        (option_map unsigned_abs tolerance) ≡ Ok (job_answer result) }
-    ensures accepted { IsAcceptedText cells.now grids.now names.now (job_text result) }
+    ensures accepted { (present : NamesValue) → AreNamed names present
+        → IsAcceptedJob cells.now grids.now present result }
 {
     // These calls tell what the grids and the cells keep.
     let _families = grids.families();
@@ -126,12 +170,18 @@ fn certificate(
 }
 
 /// The job of the design that was found.
-fn job_of(cells: &Cells, grids: &Grids, names: &Names, tolerance: Option<i128>, found: Found) -> Job
+fn job_of(
+    cells: &Cells,
+    grids: &Grids,
+    names: Option<Names>,
+    tolerance: Option<i128>,
+    found: Found,
+) -> Job
     requires admitted { IsAdmitted grids.now found.design }
     requires cell { found.cell < length cells.now.cells }
-    requires names { AreNames names.now }
+    requires names { IfSome names AreNames }
     requires worst { IsWorst found.worst }
-    ensures names { result.names ≡ Some names.now }
+    ensures names { result.names ≡ names }
     ensures design { result.design ≡ found.design }
     ensures worst { result.worst ≡ found.worst }
     ensures share { result.share ≡ share_with tolerance found.over }
@@ -149,7 +199,7 @@ fn job_of(cells: &Cells, grids: &Grids, names: &Names, tolerance: Option<i128>, 
         found.nodes,
     );
     Job {
-        names: Some(*names),
+        names,
         design: found.design,
         worst: found.worst,
         share: share_with(tolerance, found.over),

@@ -7,3 +7,4 @@ mod Cells
 mod Kepts
 mod Loops
 mod Told
+mod Sweeps

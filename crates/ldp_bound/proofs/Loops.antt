@@ -82,6 +82,18 @@ unusable_at tolerance sizes count cell within defined here =
     rw (first, test) refl) in
     rw found refl
 
+-- where each is defined, none is undefined
+pub all_defined : (f : ℕ → ℕ) (count : ℕ) → position is_none (at_cells (λ k. Some (f k)) count) ≡ None
+all_defined f count =
+    let values : List (Option ℕ) = at_cells (λ k. Some (f k)) count in
+    let all : length values ≡ count = length-at_cells (λ k. Some (f k)) count in
+    let first : position_or_len is_none values ≡ count =
+    position_or_len_is is_none values count None (omega arith)
+    (λ k h. ap is_none (cell_at (λ k. Some (f k)) count k None h))
+    (λ h. absurd (omega arith)) in
+    let test : nat_lt count (length values) ≡ false = grind (arith, nat_tests) in
+    rw (first, test) refl
+
 -- none is undefined
 pub usable_over : (tolerance : Option ℕ) (sizes : ℕ → Option ℕ) (count : ℕ) (told : Tally)
     → ((k : ℕ) → k < count → is_none (sizes k) ≡ false)

@@ -74,7 +74,7 @@ first_stays (y ∷ ys) x h =
     ∙ position_or_len_push (λ v. v == largest (y ∷ ys)) (y ∷ ys) x
     ∙ rw inside refl
 
-same_tally : (over more value most cell first : ℕ) → over ≡ more → value ≡ most → cell ≡ first
+pub same_tally : (over more value most cell first : ℕ) → over ≡ more → value ≡ most → cell ≡ first
     → ◌≡◌ {A = Tally} (record { over = over; value = value; cell = cell })
     (record { over = more; value = most; cell = first })
 same_tally over more value most cell first h k l = cc

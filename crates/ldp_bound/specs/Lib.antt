@@ -3,3 +3,4 @@ pub mod Plain
 pub mod Kept
 pub mod Tally
 pub mod Laws
+pub mod Sweeps

@@ -8,7 +8,7 @@ use crate::Memory;
 use crate::kinds::PreparedKinds;
 use ldp_cells::Cells;
 use ldp_design::Grids;
-use ldp_distortion::Prepared;
+use ldp_stretch::Stretched;
 use std::alloc::Global;
 
 /// What stays the same while designs and boxes are asked for: the families, the cells prepared for
@@ -48,18 +48,18 @@ impl Kept {
         })
     }
 
-    /// The cells prepared for the lists of the family with this number.
-    pub fn set(&self, number: u16) -> Option<&Prepared>
+    /// The cells prepared for the lists of the family with this number, cut into stretches.
+    pub fn set(&self, number: u16) -> Option<&Stretched>
         requires some { 1 ≤ number }
         requires known { number ≤ length self.now.grids }
         ensures set { option_map (λ p. p.now) result
             ≡ option_and_then (family_set self.now.kinds) (family_of self.now.grids number) }
         ensures ready { IfSome result (λ p. IsReady self.now.count p.now) }
     {
-        let prepared = self.kinds.of(self.grids.family(number))?;
+        let stretched = self.kinds.of(self.grids.family(number))?;
         // No list has more than 16 inputs.
-        let _inputs = prepared.lists().joint.inputs();
-        Some(prepared)
+        let _inputs = stretched.prepared().lists().joint.inputs();
+        Some(stretched)
     }
 }
 

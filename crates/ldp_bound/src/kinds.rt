@@ -1,22 +1,22 @@
-ghost use Rattle.std.specs.Prelude.{◌≡◌, IfOk, option_map};
+ghost use Rattle.std.specs.Prelude.{◌≡◌, ◌<◌, length, IfOk, option_map};
 
 use crate::Memory;
 use crate::lists::is_south;
 use crate::sets::prepared_for;
 use ldp_cells::Cells;
 use ldp_design::{Family, Grids, Kind};
-use ldp_distortion::Prepared;
+use ldp_stretch::Stretched;
 use std::alloc::Global;
 
-/// The cells prepared for the lists of each kind that some family has. What is prepared once serves
-/// every family of the kind, in the oblique one by hemisphere.
+/// The cells prepared for the lists of each kind that some family has, and cut into stretches. What
+/// is prepared once serves every family of the kind, in the oblique one by hemisphere.
 #[derive(Drop)]
 pub struct PreparedKinds {
-    tm: Option<Prepared>,
-    lambert: Option<Prepared>,
-    lambert2: Option<Prepared>,
-    hotine_north: Option<Prepared>,
-    hotine_south: Option<Prepared>,
+    tm: Option<Stretched>,
+    lambert: Option<Stretched>,
+    lambert2: Option<Stretched>,
+    hotine_north: Option<Stretched>,
+    hotine_south: Option<Stretched>,
 }
 
 impl PreparedKinds {
@@ -24,6 +24,7 @@ impl PreparedKinds {
 
     /// Prepares the cells once for each kind.
     pub fn new(alloc: Global, grids: &Grids, cells: &Cells) -> Result<PreparedKinds, Memory>
+        requires { 0 < length cells.now.cells }
         ensures { IfOk result (λ kinds. kinds ≡ kinds_of grids.now cells.now.cells) }
     {
         Ok(PreparedKinds {
@@ -36,7 +37,7 @@ impl PreparedKinds {
     }
 
     /// The cells prepared for the lists of a family.
-    pub fn of(&self, family: &Family) -> Option<&Prepared>
+    pub fn of(&self, family: &Family) -> Option<&Stretched>
         ensures { option_map (λ p. p.now) result ≡ family_set self.now family.now }
     {
         match family.kind {
@@ -47,7 +48,7 @@ impl PreparedKinds {
         }
     }
 
-    fn oblique(&self, south: bool) -> Option<&Prepared>
+    fn oblique(&self, south: bool) -> Option<&Stretched>
         ensures { option_map (λ p. p.now) result ≡ set_at self.now Kind.Hotine south }
     {
         if south {

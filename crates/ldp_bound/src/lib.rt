@@ -2,6 +2,11 @@
 //! projections' lists bound of it over boxes of designs.
 #![tactic(auto)]
 
+mod benches;
+mod box_sweep;
+mod cell_by_cell;
+mod design_sweep;
+mod hints;
 mod inputs;
 mod kept;
 mod kinds;
@@ -15,6 +20,7 @@ mod sizes;
 mod tally;
 mod tolerance;
 
+pub use cell_by_cell::CellByCell;
 pub use ldp_problem::{Bound, Bounds, Cost, Pair};
 pub use lists::family_lists;
 pub use plain::Plain;

@@ -3,9 +3,12 @@ ghost use Rattle.ldp_num.specs.Steps.{most_steps};
 ghost use Rattle.ldp_num.specs.Number.{limit};
 ghost use Rattle.ldp_design.specs.Boxes.{LiesIn};
 ghost use Rattle.ldp_problem.specs.Costs.{at_cells};
+ghost use Rattle.ldp_sweep.specs.Cut.{IsCut};
 ghost use Rattle.ldp_bound.specs.Kept.{kept_lower, low_from, IsReady, TellsBox};
 ghost use Rattle.ldp_bound.specs.Tally.{tally_of};
 
+use crate::benches::Benches;
+use crate::box_sweep::BoxSweep;
 use crate::inputs::{MOST_INPUTS, joined_at, put_box};
 use crate::kept::Kept;
 use crate::tally::Tally;
@@ -13,6 +16,7 @@ use ldp_design::{DesignBox, inputs_of};
 use ldp_distortion::Prepared;
 use ldp_num::Bench;
 use ldp_range::{Range, sharp};
+use ldp_stretch::Stretched;
 
 /// The least absolute distortion of a box at a cell, in units of 10^-15; 0 where it is undefined.
 pub(crate) fn low(kept: &Kept, bench: &mut Bench<Range>, b: &DesignBox, cell: u32) -> u128
@@ -24,13 +28,14 @@ pub(crate) fn low(kept: &Kept, bench: &mut Bench<Range>, b: &DesignBox, cell: u3
     ensures room { bench.new.room ≡ bench.old.room }
 {
     let mut inputs = [sharp(0); MOST_INPUTS];
-    let Some(prepared) = begun(kept, bench, b, &mut inputs) else {
+    let Some(stretched) = begun(kept, bench, b, &mut inputs) else {
         return 0;
     };
-    low_at(prepared, bench, &mut inputs, cell)
+    low_at(stretched.prepared(), bench, &mut inputs, cell)
 }
 
-/// What is told of the least absolute distortions of a box at all cells. Runs the design list once.
+/// What is told of the least absolute distortions of a box at all cells, cell by cell. Runs the
+/// design list once.
 pub(crate) fn lows(kept: &Kept, bench: &mut Bench<Range>, b: &DesignBox) -> Tally
     requires lies { LiesIn kept.now.grids b.now }
     requires room { bench.old.room ≡ most_steps }
@@ -40,10 +45,69 @@ pub(crate) fn lows(kept: &Kept, bench: &mut Bench<Range>, b: &DesignBox) -> Tall
     ensures room { bench.new.room ≡ bench.old.room }
 {
     let mut inputs = [sharp(0); MOST_INPUTS];
-    let Some(prepared) = begun(kept, bench, b, &mut inputs) else {
+    let Some(stretched) = begun(kept, bench, b, &mut inputs) else {
         return Tally::none();
     };
-    told(kept, prepared, bench, &mut inputs)
+    told(kept, stretched.prepared(), bench, &mut inputs)
+}
+
+/// The same over the stretches of the cells, with the benches back. The hints are cells that may
+/// have the greatest value.
+pub(crate) fn lows_by_stretches(
+    kept: &Kept,
+    benches: Benches,
+    hints: &[u32],
+    b: &DesignBox,
+) -> (Tally, Benches)
+    requires { LiesIn kept.now.grids b.now }
+    ensures value { result.0 ≡ tally_of kept.now.tolerance
+        (at_cells (kept_lower kept.now.grids kept.now.kinds b.now) kept.now.count) }
+    ensures small { result.0.value ≤ limit }
+{
+    let mut inputs = [sharp(0); MOST_INPUTS];
+    let Benches {
+        numbers,
+        mut ranges,
+        twins,
+    } = benches;
+    let Some(stretched) = begun(kept, &mut ranges, b, &mut inputs) else {
+        return (
+            Tally::none(),
+            Benches {
+                numbers,
+                ranges,
+                twins,
+            },
+        );
+    };
+    let mut sweep = BoxSweep::new(stretched, kept.count, ranges, twins, inputs);
+    let told = swept(&mut sweep, hints, kept.tolerance);
+    let (ranges, twins) = sweep.into_benches();
+    (
+        told,
+        Benches {
+            numbers,
+            ranges,
+            twins,
+        },
+    )
+}
+
+fn swept(sweep: &mut BoxSweep<'_>, hints: &[u32], tolerance: Option<u64>) -> Tally
+    requires { IsCut sweep.old.count sweep.old.nodes }
+    ensures value { result ≡ tally_of tolerance
+        (at_cells (low_from sweep.old.cells sweep.old.design) sweep.old.count) }
+    ensures small { result.value ≤ limit }
+{
+    let Ok(told) = ldp_sweep::tally_of(sweep, hints, tolerance) else {
+        // The least absolute distortion is defined at every cell.
+        unreachable!();
+    };
+    Tally {
+        over: told.over,
+        value: told.peak.value,
+        cell: told.peak.cell,
+    }
 }
 
 /// Runs the design list of a box into the first of the joint list's inputs. None: it is undefined,
@@ -53,7 +117,7 @@ fn begun<'a>(
     bench: &mut Bench<Range>,
     b: &DesignBox,
     inputs: &mut [Range],
-) -> Option<&'a Prepared>
+) -> Option<&'a Stretched>
     requires lies { LiesIn kept.now.grids b.now }
     requires room { bench.old.room ≡ most_steps }
     requires inputs { 16 ≤ length inputs.old }
@@ -64,17 +128,22 @@ fn begun<'a>(
     ensures ready { IfSome result (λ p. IsReady kept.now.count p.now) }
     ensures room { bench.new.room ≡ bench.old.room }
 {
-    let prepared = kept.set(b.family)?;
+    let stretched = kept.set(b.family)?;
     let (low, high) = inputs_of(&kept.grids, b);
-    if !put_box(prepared, bench, &low, &high, inputs) {
+    if !put_box(stretched.prepared(), bench, &low, &high, inputs) {
         return None;
     }
-    Some(prepared)
+    Some(stretched)
 }
 
 /// The least absolute distortion at a cell, where the first of the inputs are the results of the
 /// design list.
-fn low_at(prepared: &Prepared, bench: &mut Bench<Range>, inputs: &mut [Range], cell: u32) -> u128
+pub(crate) fn low_at(
+    prepared: &Prepared,
+    bench: &mut Bench<Range>,
+    inputs: &mut [Range],
+    cell: u32,
+) -> u128
     requires ready { IsReady (length prepared.now.results) prepared.now }
     requires room { bench.old.room ≡ most_steps }
     requires inputs { 16 ≤ length inputs.old }

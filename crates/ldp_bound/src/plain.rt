@@ -1,31 +1,31 @@
-ghost use Rattle.std.specs.Prelude.{◌≡◌, ◌<◌, ◌≤ℤ◌, pos, length, IfOk, IfSome, option_map};
+ghost use Rattle.std.specs.Prelude.{◌≡◌, ◌<◌, length, true, is_some, IfOk, IfSome, option_map};
 ghost use Rattle.std.specs.Prelude.{unsigned_abs};
-ghost use Rattle.ldp_num.specs.Steps.{most_steps};
 
 use crate::Memory;
+use crate::benches::Benches;
+use crate::hints::Hints;
 use crate::kept::Kept;
-use crate::lows::{low, lows};
+use crate::lows::{low, lows_by_stretches};
 use crate::single::{bound_of_single, first_of};
-use crate::sizes::{cost, size};
+use crate::sizes::{cost_by_stretches, size};
 use crate::tally::signed;
 use crate::tolerance::{signed_units, units};
 use ldp_cells::Cells;
 use ldp_design::{Design, DesignBox, Grids, is_single};
-use ldp_num::{Bench, Fix, MOST_STEPS};
 use ldp_problem::{Bound, Bounds, Cost};
-use ldp_range::Range;
 use std::alloc::Global;
 
 /// The bounder of families of designs over cells, whose least distortion of a box is that of its
-/// range. Takes memory when it is made, and never after.
+/// range. It passes over stretches of cells that change no answer. Takes memory when it is made,
+/// and never after.
 #[derive(Drop)]
 pub struct Plain {
     kept: Kept,
-    numbers: Bench<Fix>,
-    ranges: Bench<Range>,
+    /// Taken out for a call, and put back.
+    benches: Option<Benches>,
+    hints: Hints,
     asked: u64,
-    ghost numbers_room: { numbers.room ≡ most_steps },
-    ghost ranges_room: { ranges.room ≡ most_steps },
+    ghost there: { is_some benches ≡ true },
 }
 
 impl Plain {
@@ -46,12 +46,11 @@ impl Plain {
         ensures asked { IfOk result (λ plain. ⟦<Plain as Bounds>⟧.times plain ≡ 0) }
     {
         let kept = Kept::new(alloc, grids, cells, units(tolerance))?;
-        let numbers = Bench::with_room(alloc, MOST_STEPS)?;
-        let ranges = Bench::with_room(alloc, MOST_STEPS)?;
+        let benches = Benches::new(alloc)?;
         Ok(Plain {
             kept,
-            numbers,
-            ranges,
+            benches: Some(benches),
+            hints: Hints::new(),
             asked: 0,
         })
     }
@@ -78,21 +77,43 @@ impl Bounds for Plain {
 
     fn bound(&mut self, b: &DesignBox) -> Bound {
         self.asked = self.asked.saturating_add(1);
+        let Some(benches) = self.benches.take() else {
+            unreachable!();
+        };
         if is_single(b) {
-            let cost = cost(&self.kept, &mut self.numbers, &first_of(b));
+            let (cost, benches) = cost_by_stretches(
+                &self.kept,
+                benches,
+                self.hints.cells(),
+                &first_of(b),
+            );
+            self.benches = Some(benches);
             return bound_of_single(cost);
         }
-        lows(&self.kept, &mut self.ranges, b).bound()
+        let (lows, benches) = lows_by_stretches(&self.kept, benches, self.hints.cells(), b);
+        self.benches = Some(benches);
+        self.hints.add(lows.cell);
+        lows.bound()
     }
 
     fn lower(&mut self, b: &DesignBox, cell: u32) -> i128 {
         self.asked = self.asked.saturating_add(1);
-        signed(low(&self.kept, &mut self.ranges, b, cell))
+        let Some(mut benches) = self.benches.take() else {
+            unreachable!();
+        };
+        let low = low(&self.kept, &mut benches.ranges, b, cell);
+        self.benches = Some(benches);
+        signed(low)
     }
 
     fn defined(&mut self, d: &Design, cell: u32) -> bool {
         self.asked = self.asked.saturating_add(1);
-        size(&self.kept, &mut self.numbers, d, cell).is_some()
+        let Some(mut benches) = self.benches.take() else {
+            unreachable!();
+        };
+        let size = size(&self.kept, &mut benches.numbers, d, cell);
+        self.benches = Some(benches);
+        size.is_some()
     }
 
     fn cost(&mut self, d: &Design) -> Cost
@@ -103,7 +124,12 @@ impl Bounds for Plain {
         ensures asked { ⟦<Plain as Bounds>⟧.times self.new ≡ count_up (⟦<Plain as Bounds>⟧.times self.old) }
     {
         self.asked = self.asked.saturating_add(1);
-        cost(&self.kept, &mut self.numbers, d)
+        let Some(benches) = self.benches.take() else {
+            unreachable!();
+        };
+        let (cost, benches) = cost_by_stretches(&self.kept, benches, self.hints.cells(), d);
+        self.benches = Some(benches);
+        cost
     }
 
     fn asked(&self) -> u64 {

@@ -1,4 +1,4 @@
-ghost use Rattle.std.specs.Prelude.{◌≡◌, IfOk};
+ghost use Rattle.std.specs.Prelude.{◌≡◌, ◌<◌, length, IfOk};
 ghost use Rattle.std.specs.List.{list_any};
 ghost use Rattle.ldp_bound.specs.Kept.{is_same, has_lists, set_of};
 
@@ -7,6 +7,7 @@ use crate::lists::{is_south, lists_of};
 use ldp_cells::Cells;
 use ldp_design::{Family, Grids, Kind};
 use ldp_distortion::Prepared;
+use ldp_stretch::Stretched;
 use std::alloc::Global;
 
 /// The cells prepared for the lists of a kind and a hemisphere, where some family has them.
@@ -16,7 +17,8 @@ pub(crate) fn prepared_for(
     cells: &Cells,
     kind: Kind,
     south: bool,
-) -> Result<Option<Prepared>, Memory>
+) -> Result<Option<Stretched>, Memory>
+    requires { 0 < length cells.now.cells }
     ensures { IfOk result (λ set. set ≡ set_of grids.now cells.now.cells kind south) }
 {
     if !some_has(grids, kind, south) {
@@ -24,7 +26,8 @@ pub(crate) fn prepared_for(
     }
     let lists = lists_of(alloc, kind, south)?;
     let prepared = Prepared::new(alloc, lists, cells)?;
-    Ok(Some(prepared))
+    let stretched = Stretched::new(alloc, prepared, cells.len())?;
+    Ok(Some(stretched))
 }
 
 fn some_has(grids: &Grids, kind: Kind, south: bool) -> bool

@@ -3,10 +3,13 @@ ghost use Rattle.ldp_num.specs.Steps.{most_steps};
 ghost use Rattle.ldp_num.specs.Number.{limit};
 ghost use Rattle.ldp_distortion.specs.Inputs.{numbers};
 ghost use Rattle.ldp_design.specs.Designs.{IsAdmitted};
+ghost use Rattle.ldp_sweep.specs.Cut.{IsCut};
 ghost use Rattle.ldp_bound.specs.Plain.{HasNumber};
 ghost use Rattle.ldp_bound.specs.Kept.{kept_delta, size_from, IsReady, TellsDesign};
 ghost use Rattle.ldp_bound.specs.Tally.{cost_over};
 
+use crate::benches::Benches;
+use crate::design_sweep::DesignSweep;
 use crate::inputs::{MOST_INPUTS, joined_at, put_design};
 use crate::kept::Kept;
 use crate::tally::Tally;
@@ -14,6 +17,7 @@ use ldp_design::{Design, inputs_at};
 use ldp_distortion::Prepared;
 use ldp_num::{Bench, Fix};
 use ldp_problem::Cost;
+use ldp_stretch::Stretched;
 
 /// The absolute distortion of a design at a cell, in units of 10^-15.
 pub(crate) fn size(kept: &Kept, bench: &mut Bench<Fix>, d: &Design, cell: u32) -> Option<u128>
@@ -24,11 +28,11 @@ pub(crate) fn size(kept: &Kept, bench: &mut Bench<Fix>, d: &Design, cell: u32) -
     ensures room { bench.new.room ≡ bench.old.room }
 {
     let mut inputs = [Fix { n: 0 }; MOST_INPUTS];
-    let prepared = begun(kept, bench, d, &mut inputs)?;
-    size_at(prepared, bench, &mut inputs, cell)
+    let stretched = begun(kept, bench, d, &mut inputs)?;
+    size_at(stretched.prepared(), bench, &mut inputs, cell)
 }
 
-/// The cost of a design over all cells. Runs the design list once.
+/// The cost of a design over all cells, cell by cell. Runs the design list once.
 pub(crate) fn cost(kept: &Kept, bench: &mut Bench<Fix>, d: &Design) -> Cost
     requires admitted { IsAdmitted kept.now.grids d.now }
     requires room { bench.old.room ≡ most_steps }
@@ -38,10 +42,71 @@ pub(crate) fn cost(kept: &Kept, bench: &mut Bench<Fix>, d: &Design) -> Cost
     ensures room { bench.new.room ≡ bench.old.room }
 {
     let mut inputs = [Fix { n: 0 }; MOST_INPUTS];
-    let Some(prepared) = begun(kept, bench, d, &mut inputs) else {
+    let Some(stretched) = begun(kept, bench, d, &mut inputs) else {
         return Cost::Unusable { cell: 0 };
     };
-    told(kept, prepared, bench, &mut inputs)
+    told(kept, stretched.prepared(), bench, &mut inputs)
+}
+
+/// The same over the stretches of the cells, with the benches back. The hints are cells that may
+/// have the greatest value.
+pub(crate) fn cost_by_stretches(
+    kept: &Kept,
+    benches: Benches,
+    hints: &[u32],
+    d: &Design,
+) -> (Cost, Benches)
+    requires { IsAdmitted kept.now.grids d.now }
+    ensures value { result.0 ≡ cost_over kept.now.tolerance
+        (kept_delta kept.now.grids kept.now.kinds d.now) kept.now.count }
+    ensures number { HasNumber result.0 }
+{
+    let mut inputs = [Fix { n: 0 }; MOST_INPUTS];
+    let Benches {
+        mut numbers,
+        ranges,
+        twins,
+    } = benches;
+    let Some(stretched) = begun(kept, &mut numbers, d, &mut inputs) else {
+        return (
+            Cost::Unusable { cell: 0 },
+            Benches {
+                numbers,
+                ranges,
+                twins,
+            },
+        );
+    };
+    let mut sweep = DesignSweep::new(stretched, kept.count, numbers, twins, inputs);
+    let told = swept(&mut sweep, hints, kept.tolerance);
+    let (numbers, twins) = sweep.into_benches();
+    (
+        told,
+        Benches {
+            numbers,
+            ranges,
+            twins,
+        },
+    )
+}
+
+fn swept(sweep: &mut DesignSweep<'_>, hints: &[u32], tolerance: Option<u64>) -> Cost
+    requires { IsCut sweep.old.count sweep.old.nodes }
+    ensures value { result ≡ cost_over tolerance
+        (size_from sweep.old.cells (numbers sweep.old.design)) sweep.old.count }
+    ensures number { HasNumber result }
+{
+    match ldp_sweep::tally_of(sweep, hints, tolerance) {
+        Ok(told) => Tally {
+            over: told.over,
+            value: told.peak.value,
+            cell: told.peak.cell,
+        }
+        .cost(),
+        Err(undefined) => Cost::Unusable {
+            cell: undefined.cell,
+        },
+    }
 }
 
 /// Runs the design list of a design into the first of the joint list's inputs. None: it is
@@ -51,7 +116,7 @@ fn begun<'a>(
     bench: &mut Bench<Fix>,
     d: &Design,
     inputs: &mut [Fix],
-) -> Option<&'a Prepared>
+) -> Option<&'a Stretched>
     requires admitted { IsAdmitted kept.now.grids d.now }
     requires room { bench.old.room ≡ most_steps }
     requires inputs { 16 ≤ length inputs.old }
@@ -62,17 +127,17 @@ fn begun<'a>(
     ensures ready { IfSome result (λ p. IsReady kept.now.count p.now) }
     ensures room { bench.new.room ≡ bench.old.room }
 {
-    let prepared = kept.set(d.family)?;
+    let stretched = kept.set(d.family)?;
     let at = inputs_at(&kept.grids, d);
-    if !put_design(prepared, bench, &at, inputs) {
+    if !put_design(stretched.prepared(), bench, &at, inputs) {
         return None;
     }
-    Some(prepared)
+    Some(stretched)
 }
 
 /// The absolute distortion at a cell, where the first of the inputs are the results of the design
 /// list.
-fn size_at(
+pub(crate) fn size_at(
     prepared: &Prepared,
     bench: &mut Bench<Fix>,
     inputs: &mut [Fix],

@@ -12,9 +12,10 @@ use Rattle.ldp_cli.specs.Check.{check_answer, upgrade_answer, IsUpgraded}
 use Rattle.ldp_cli.specs.Design.{design_request, design_files, design_answer, IsFound}
 use Rattle.ldp_cli.specs.Table.{table_request, table_files, table_answer}
 use Rattle.ldp_cli.specs.Wkt.{wkt_request, wkt_files, wkt_answer}
+use Rattle.ldp_cli.specs.Sample.{sample_request, sample_answer, IsSampled}
 use Rattle.ldp_cli.specs.declared.commands.Request.{Request}
 use Rattle.ldp_cli.specs.declared.commands.Request.TheVariants.{Eval, Design, Check, Upgrade}
-use Rattle.ldp_cli.specs.declared.commands.Request.TheVariants.{Table, Wkt}
+use Rattle.ldp_cli.specs.declared.commands.Request.TheVariants.{Table, Wkt, Sample}
 
 -- the request of a command's name and the words after it
 abbrev pub request_named : List ℕ → List (List ℕ) → Option Request
@@ -25,6 +26,7 @@ request_named name words =
     else if bytes_eq name (codes "upgrade") then option_map Upgrade (job_request words)
     else if bytes_eq name (codes "table") then option_map Table (table_request words)
     else if bytes_eq name (codes "wkt") then option_map Wkt (wkt_request words)
+    else if bytes_eq name (codes "sample") then option_map Sample (sample_request words)
     else None
 
 -- the request of the words after the program's name, if they are in a form
@@ -40,6 +42,7 @@ files_of (Check asked) = job_files asked
 files_of (Upgrade asked) = job_files asked
 files_of (Table asked) = table_files asked
 files_of (Wkt asked) = wkt_files asked
+files_of (Sample asked) = []
 
 -- what a request answers, or why it is refused
 abbrev pub answer_to : Request → Files → Result Answer Refusal
@@ -49,8 +52,9 @@ answer_to (Check asked) files = check_answer asked files
 answer_to (Upgrade asked) files = upgrade_answer asked files
 answer_to (Table asked) files = table_answer asked files
 answer_to (Wkt asked) files = wkt_answer asked files
+answer_to (Sample asked) files = sample_answer asked
 
--- what a request shows of its files where it answers no rejection
+-- what a request shows where it answers no rejection
 abbrev pub Shows : Option Request → Files → Type 0
 Shows None files = Unit {0}
 Shows (Some (Eval asked)) files = Unit {0}
@@ -59,6 +63,7 @@ Shows (Some (Check asked)) files = IsShown asked files
 Shows (Some (Upgrade asked)) files = IsUpgraded asked files
 Shows (Some (Table asked)) files = Unit {0}
 Shows (Some (Wkt asked)) files = Unit {0}
+Shows (Some (Sample asked)) files = IsSampled asked
 
 -- the files of a list of words: none where it is in no form
 abbrev pub asked_in : Option Request → List Asked

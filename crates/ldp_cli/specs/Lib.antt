@@ -11,5 +11,6 @@ pub mod Limits
 pub mod Design
 pub mod Wkt
 pub mod Table
+pub mod Sample
 pub mod Commands
 pub mod Ending

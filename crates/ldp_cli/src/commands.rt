@@ -6,6 +6,7 @@ use crate::certificate::{JobWords, job_words};
 use crate::check::{check, upgrade};
 use crate::design::{DesignWords, design, design_words};
 use crate::eval::{EvalWords, eval, eval_words};
+use crate::sample::{SampleWords, sample, sample_words};
 use crate::stop::Stop;
 use crate::table::{TableWords, table, table_words};
 use crate::wkt::{WktWords, wkt, wkt_words};
@@ -22,6 +23,7 @@ pub enum Request<'a> {
     Upgrade(JobWords<'a>),
     Table(TableWords<'a>),
     Wkt(WktWords<'a>),
+    Sample(SampleWords),
 }
 
 /// The request of the words, if they are in a form and each number is in its range.
@@ -56,6 +58,9 @@ fn request_named<'a>(name: &str, words: &'a [String]) -> Option<Request<'a>>
     if name == "wkt" {
         return Some(Request::Wkt(wkt_words(words)?));
     }
+    if name == "sample" {
+        return Some(Request::Sample(sample_words(words)?));
+    }
     None
 }
 
@@ -76,5 +81,6 @@ pub fn answer<H: Shelf>(alloc: Global, shelf: &mut H, request: &Request<'_>) -> 
         Request::Upgrade(words) => upgrade(alloc, shelf, words),
         Request::Table(words) => table(alloc, shelf, words),
         Request::Wkt(words) => wkt(alloc, shelf, words),
+        Request::Sample(words) => Ok(sample(alloc, words)?),
     }
 }

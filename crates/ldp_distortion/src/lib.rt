@@ -5,6 +5,7 @@
 //! distortion k R / (R + h) - 1 (NOAA SP NOS NGS 13) at a cell.
 #![tactic(auto)]
 
+mod cell_runs;
 mod inputs;
 mod prepared;
 mod table;

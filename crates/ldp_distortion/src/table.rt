@@ -5,9 +5,10 @@ ghost use Rattle.ldp_distortion.specs.Distortion.{cell_results};
 ghost use Rattle.ldp_distortion.specs.Rows.{AreRows};
 
 use crate::Memory;
+use crate::cell_runs::CellRuns;
 use crate::inputs::cell_inputs;
 use ldp_cells::Cells;
-use ldp_num::{Bench, Fix};
+use ldp_num::Fix;
 use ldp_series::List;
 use std::alloc::Global;
 use std::marker::Model;
@@ -49,14 +50,14 @@ impl Table {
     {
         let count = cells.len();
         let width = list.outs().len();
-        let mut bench = Bench::with_room(alloc, list.steps().len())?;
+        let mut runs = CellRuns::new(alloc, list)?;
         let mut buffer = [Fix { n: 0 }; MOST_RESULTS];
         let results = &mut buffer[..width];
         let mut defined = Vec::with_capacity(alloc, count as usize)?;
         let mut numbers = Vec::with_capacity(alloc, width * count as usize)?;
         for cell in 0..count {
             let inputs = cell_inputs(&cells.get(cell));
-            defined.push(list.run_into(&mut bench, &inputs, results))?;
+            defined.push(runs.run_into(list, &inputs, results))?;
             push_numbers(&mut numbers, results)?;
         }
         Ok(Table {

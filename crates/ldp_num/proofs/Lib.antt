@@ -3,3 +3,5 @@ pub mod Products
 pub mod Quotients
 pub mod Roots
 pub mod Listed
+pub mod Reruns
+pub mod Lasting

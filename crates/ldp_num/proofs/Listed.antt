@@ -1,15 +1,15 @@
 -- The results of a formula over the lists that values mean are the lists that its results mean. So a run of carrier 0 is a
--- run over numbers, and a run of carrier 1 is a run over pairs.
+-- run over numbers, a run of carrier 1 is a run over pairs, and a run of carrier 3 is one over twins.
 use Rattle.std.specs.Prelude.{◌≡◌, ℕ, ℤ, List, [], ◌∷◌, ◌++◌, map, slice_get, Option, Some, None, option_map, option_and_then, refl}
 use Rattle.std.proofs.Common.{◌∙◌, ap, sym}
 use Rattle.std.proofs.lemmas.Option.{slice_get-map}
 use Rattle.std.proofs.lemmas.List.{map-append}
 use Rattle.ldp_num.specs.declared.step.Step.{Step}
 use Rattle.ldp_num.specs.declared.step.Step.TheVariants.{Const, Input, Add, Sub, Mul, Div, Sq, Sqrt, Need}
-use Rattle.ldp_num.specs.Written.{Ops, of_one, of_two, listed, number_ops, range_ops, plain_in, plain_out, pair_in, pair_out}
+use Rattle.ldp_num.specs.Written.{Ops, of_one, of_two, listed, number_ops, range_ops, twin_ops, plain_in, plain_out, pair_in, pair_out, twin_in, twin_out}
 use Rattle.ldp_num.specs.Steps.{at_one, at_two, step_value, results_from, results_of}
 use Rattle.ldp_num.specs.StepList.{StepList, at_places, value_in}
-use Rattle.ldp_num.specs.Laws.{PlainValue, PlainTold, PairValue, PairTold}
+use Rattle.ldp_num.specs.Laws.{PlainValue, PlainTold, PairValue, PairTold, TwinValue, TwinTold}
 
 one_listed : {A : Type 0} (from : List ℤ → Option A) (out : A → List ℤ) → ((a : A) → from (out a) ≡ Some a)
     → (f : A → Option A) (x : Option A)
@@ -138,3 +138,10 @@ pair_value list inputs = value_listed pair_in pair_out (λ a. refl) range_ops li
 
 pub pair_told : PairTold
 pair_told list inputs found h = value_told pair_in pair_out (λ a. refl) range_ops list inputs found h
+
+-- carrier 3 runs over twins
+pub twin_value : TwinValue
+twin_value list inputs = value_listed twin_in twin_out (λ a. refl) twin_ops list inputs
+
+pub twin_told : TwinTold
+twin_told list inputs found h = value_told twin_in twin_out (λ a. refl) twin_ops list inputs found h

@@ -2,9 +2,11 @@ pub mod Number
 pub mod Root
 pub mod Plain
 pub mod Ranges
+pub mod Twins
 pub mod Written
 pub mod Steps
 pub mod StepList
 pub mod Units
 pub mod Bench
+pub mod Again
 pub mod Laws

@@ -1,9 +1,11 @@
 -- The written operations of each carrier. What a carrier's value means is a list of numbers:
 -- carrier 0 is the plain number, a list of one; carrier 1 is the range, a list of its low and its
--- high end.
+-- high end; carrier 3 is the twin, a list of the four ends of its two ranges. Nothing is defined in
+-- carrier 2.
 use Rattle.std.specs.Prelude.{ℕ, zero, suc, ℤ, List, [], ◌∷◌, Option, Some, None, option_map, option_and_then}
 use Rattle.ldp_num.specs.Plain.{plain_add, plain_sub, plain_mul, plain_div, plain_sq, plain_sqrt, plain_need}
 use Rattle.ldp_num.specs.Ranges.{pair_add, pair_sub, pair_mul, pair_div, pair_sq, pair_sqrt, pair_need}
+use Rattle.ldp_num.specs.Twins.{TwinPair, twin_add, twin_sub, twin_mul, twin_div, twin_sq, twin_sqrt, twin_need}
 
 -- the operations of a formula over any type of value
 pub record Ops (A : Type 0) : Type 0 where
@@ -40,6 +42,19 @@ range_ops = record {
   sq = pair_sq;
   sqrt = pair_sqrt;
   need = pair_need;
+}
+
+-- the operations on twins; a number is both ends of both ranges
+abbrev pub twin_ops : Ops TwinPair
+twin_ops = record {
+  constant = λ v. ((v, v), (v, v));
+  add = twin_add;
+  sub = twin_sub;
+  mul = twin_mul;
+  div = twin_div;
+  sq = twin_sq;
+  sqrt = twin_sqrt;
+  need = twin_need;
 }
 
 -- an operation of one value, and of two, over the lists of numbers that they mean
@@ -81,6 +96,14 @@ pair_in _ = None
 abbrev pub pair_out : ℤ × ℤ → List ℤ
 pair_out a = a.0 ∷ a.1 ∷ []
 
+-- a twin is the list of the ends of its first and of its second range
+abbrev pub twin_in : List ℤ → Option TwinPair
+twin_in (a ∷ b ∷ c ∷ d ∷ []) = Some ((a, b), (c, d))
+twin_in _ = None
+
+abbrev pub twin_out : TwinPair → List ℤ
+twin_out t = t.0.0 ∷ t.0.1 ∷ t.1.0 ∷ t.1.1 ∷ []
+
 -- there is no other carrier: nothing is defined
 abbrev pub no_ops : Ops (List ℤ)
 no_ops = record {
@@ -97,4 +120,6 @@ no_ops = record {
 abbrev pub written : ℕ → Ops (List ℤ)
 written zero = listed plain_in plain_out number_ops
 written (suc zero) = listed pair_in pair_out range_ops
-written (suc (suc k)) = no_ops
+written (suc (suc zero)) = no_ops
+written (suc (suc (suc zero))) = listed twin_in twin_out twin_ops
+written (suc (suc (suc (suc k)))) = no_ops

@@ -5,7 +5,7 @@ ghost use Rattle.ldp_num.specs.Written.{written};
 /// A carrier: values that a formula is run over. What a value means is a list of numbers, and each
 /// method is the written operation of the carrier, None exactly where that is undefined.
 pub trait Num: Copy {
-    /// 0 is the plain number, 1 the range.
+    /// 0 is the plain number, 1 the range, 3 the twin of ranges.
     const CARRIER: u32;
 
     ghost CARRIER: { ℕ };

@@ -3,6 +3,7 @@
 //! A number is a whole n, at most 10^19 in absolute value, that stands for n / 10^15.
 #![tactic(auto)]
 
+mod again;
 mod bench;
 mod carrier;
 mod exact;
@@ -15,6 +16,7 @@ mod root;
 mod step;
 mod units;
 
+pub use again::dependents;
 pub use bench::Bench;
 pub use carrier::Num;
 pub use fix::Fix;

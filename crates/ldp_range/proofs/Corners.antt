@@ -16,11 +16,11 @@ use Rattle.ldp_range.proofs.Hulls.{number-ordered, hull-first-last, hull-first-t
 abbrev pub choice : ℤ → ℤ → ℤ → ℤ
 choice x a b = if int_le (pos 0) x then a else b
 
-choice-first : (x a b : ℤ) → pos 0 ≤ℤ x → choice x a b ≡ a
+pub choice-first : (x a b : ℤ) → pos 0 ≤ℤ x → choice x a b ≡ a
 choice-first (pos n) a b h = grind (arith, ints)
 choice-first (negsuc n) a b h = absurd (omega (arith, ints))
 
-choice-second : (x a b : ℤ) → x <ℤ pos 0 → choice x a b ≡ b
+pub choice-second : (x a b : ℤ) → x <ℤ pos 0 → choice x a b ≡ b
 choice-second (pos n) a b h = absurd (omega (arith, ints))
 choice-second (negsuc n) a b h = refl
 

@@ -30,6 +30,10 @@ pub hull-third-first : (p q r s : ℤ) → r ≤ℤ s → s ≤ℤ q → q ≤�
     → ends (number r) (number p) ≡ hull_of (number p ∷ number q ∷ number r ∷ number s ∷ [])
 hull-third-first p q r s a b c = grind (arith, ints, clamps)
 
+pub hull-third-second : (p q r s : ℤ) → r ≤ℤ p → r ≤ℤ s → p ≤ℤ q → s ≤ℤ q
+    → ends (number r) (number q) ≡ hull_of (number p ∷ number q ∷ number r ∷ number s ∷ [])
+hull-third-second p q r s a b c d = grind (arith, ints, clamps)
+
 pub hull-last-first : (p q r s : ℤ) → s ≤ℤ q → q ≤ℤ p → s ≤ℤ r → r ≤ℤ p
     → ends (number s) (number p) ≡ hull_of (number p ∷ number q ∷ number r ∷ number s ∷ [])
 hull-last-first p q r s a b c d = grind (arith, ints, clamps)

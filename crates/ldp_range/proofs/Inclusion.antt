@@ -95,15 +95,15 @@ quotient-between x d e k a h l =
     (λ n. let m : x ≤ℤ pos 0 = omega (arith, ints) in inl (quotient-rise x d k a h m, quotient-rise x k e b l m))
     (λ n. inr (quotient-down x k e b l n, quotient-down x d k a h n))
 
-add-holds : FollowsTwo LiesIn plain_add pair_add
+pub add-holds : FollowsTwo LiesIn plain_add pair_add
 add-holds a c b d t x y e =
     ends-hold (b.0 +ℤ d.0) (b.1 +ℤ d.1) (a +ℤ c) t.0 t.1 (omega (arith, ints, x.low, y.low)) (omega (arith, ints, x.high, y.high)) e
 
-sub-holds : FollowsTwo LiesIn plain_sub pair_sub
+pub sub-holds : FollowsTwo LiesIn plain_sub pair_sub
 sub-holds a c b d t x y e =
     ends-hold (b.0 -ℤ d.1) (b.1 -ℤ d.0) (a -ℤ c) t.0 t.1 (omega (arith, ints, x.low, y.high)) (omega (arith, ints, x.high, y.low)) e
 
-mul-holds : FollowsTwo LiesIn plain_mul pair_mul
+pub mul-holds : FollowsTwo LiesIn plain_mul pair_mul
 mul-holds a c b d t x y e =
     hull-holds (product b.0 d.0) (product b.0 d.1) (product b.1 d.0) (product b.1 d.1) (product a d.0) (product a d.1) (product a c) t.0 t.1
     (product-between b.0 b.1 a d.0 x.low x.high) (product-between b.0 b.1 a d.1 x.low x.high) (product-right-between a d.0 d.1 c y.low y.high) e
@@ -125,28 +125,28 @@ quotient-holds a (negsuc k) lo hi (pos (suc d)) high l h w x y z eq = absurd (om
 quotient-holds a (pos (suc k)) lo hi (pos (suc d)) (pos zero) l h w x y z eq = absurd (omega (arith, ints))
 quotient-holds a (pos (suc k)) lo hi (pos (suc d)) (negsuc e) l h w x y z eq = absurd (omega (arith, ints))
 
-div-holds : FollowsTwo LiesIn plain_div pair_div
+pub div-holds : FollowsTwo LiesIn plain_div pair_div
 div-holds a c b d t x y e = quotient-holds a c b.0 b.1 d.0 d.1 t.0 t.1 x.low x.high y.low y.high e
 
-square-up : (x y : ℤ) → pos 0 ≤ℤ x → x ≤ℤ y → product x x ≤ℤ product y y
+pub square-up : (x y : ℤ) → pos 0 ≤ℤ x → x ≤ℤ y → product x x ≤ℤ product y y
 square-up x y h k =
     let left = product-up x y x k h in
     let right = product-right-up y x y k (omega (arith, ints)) in
     omega (arith, ints)
 
-square-down : (x y : ℤ) → x ≤ℤ y → y ≤ℤ pos 0 → product y y ≤ℤ product x x
+pub square-down : (x y : ℤ) → x ≤ℤ y → y ≤ℤ pos 0 → product y y ≤ℤ product x x
 square-down x y k h =
     let left = product-down x y y k h in
     let right = product-right-down x x y k (omega (arith, ints)) in
     omega (arith, ints)
 
-le-true : (x y : ℤ) → x ≤ℤ y → int_le x y ≡ true
+pub le-true : (x y : ℤ) → x ≤ℤ y → int_le x y ≡ true
 le-true x y h = grind (arith, ints)
 
-le-false : (x y : ℤ) → y <ℤ x → int_le x y ≡ false
+pub le-false : (x y : ℤ) → y <ℤ x → int_le x y ≡ false
 le-false x y h = grind (arith, ints)
 
-square-above : (x : ℤ) → pos 0 ≤ℤ product x x
+pub square-above : (x : ℤ) → pos 0 ≤ℤ product x x
 square-above (pos n) = square-up (pos 0) (pos n) (≤ℤ_refl (pos 0)) (omega (arith, ints))
 square-above (negsuc n) = square-down (negsuc n) (pos 0) (omega (arith, ints)) (≤ℤ_refl (pos 0))
 
@@ -180,7 +180,7 @@ square-holds a lo hi l h x y e =
     (λ n. ends-hold (product lo lo) (product hi hi) (product a a) l h (square-up lo a n x) (square-up a hi (omega (arith, ints)) y)
     (rw (le-true (pos 0) lo n) at e))
 
-sq-holds : FollowsOne LiesIn plain_sq pair_sq
+pub sq-holds : FollowsOne LiesIn plain_sq pair_sq
 sq-holds a b t x e = square-holds a b.0 b.1 t.0 t.1 x.low x.high e
 
 root-holds : (a lo hi l h : ℤ) → lo ≤ℤ a → a ≤ℤ hi → pair_sqrt (lo, hi) ≡ Some (l, h) → Reaches LiesIn (plain_sqrt a) (l, h)
@@ -194,7 +194,7 @@ root-holds a (negsuc m) hi l h x y e = cc
 root-holds (negsuc k) (pos m) hi l h x y e = absurd (omega (arith, ints))
 root-holds (pos k) (pos m) (negsuc n) l h x y e = absurd (omega (arith, ints))
 
-sqrt-holds : FollowsOne LiesIn plain_sqrt pair_sqrt
+pub sqrt-holds : FollowsOne LiesIn plain_sqrt pair_sqrt
 sqrt-holds a b t x e = root-holds a b.0 b.1 t.0 t.1 x.low x.high e
 
 natural-holds : (a lo hi l h : ℤ) → lo ≤ℤ a → a ≤ℤ hi → pair_need (lo, hi) ≡ Some (l, h) → Reaches LiesIn (plain_need a) (l, h)
@@ -207,7 +207,7 @@ natural-holds a (negsuc m) hi l h x y e = cc
 natural-holds (negsuc k) (pos m) hi l h x y e = absurd (omega (arith, ints))
 natural-holds (pos k) (pos m) (negsuc n) l h x y e = absurd (omega (arith, ints))
 
-need-holds : FollowsOne LiesIn plain_need pair_need
+pub need-holds : FollowsOne LiesIn plain_need pair_need
 need-holds a b t x e = natural-holds a b.0 b.1 t.0 t.1 x.low x.high e
 
 -- each operation at numbers of ranges

@@ -5,4 +5,10 @@ pub mod Casts
 pub mod Follows
 pub mod Inclusion
 pub mod Sharpness
+pub mod Ordered
+pub mod Isotony
+pub mod Signs
+pub mod Held
+pub mod Bounds
+pub mod Unlisted
 pub mod Ends

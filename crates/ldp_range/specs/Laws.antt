@@ -1,10 +1,12 @@
 -- The laws of ranges. A point is a number for each input, and a range for each input is a pair.
 use Rattle.std.specs.Prelude.{◌≡◌, ◌⊎◌, ◌≤ℤ◌, IsTrue, Bool, ℤ, pos, List, map, option_map}
 use Rattle.ldp_num.specs.declared.step.Step.{Step}
-use Rattle.ldp_num.specs.Written.{Ops, number_ops, range_ops}
+use Rattle.ldp_num.specs.Twins.{TwinPair}
+use Rattle.ldp_num.specs.Written.{Ops, number_ops, range_ops, twin_ops}
 use Rattle.ldp_num.specs.Steps.{results_of}
 use Rattle.ldp_num.specs.StepList.{StepList, value, value_in}
-use Rattle.ldp_range.specs.Range.{twice, LiesIn, pair_hull, magnitude, pair_low_abs, pair_high_abs}
+use Rattle.ldp_range.specs.Range.{twice, LiesIn, IsNarrower, pair_hull, magnitude, pair_low_abs, pair_high_abs}
+use Rattle.ldp_range.specs.Twin.{IsHeld, ends_twin, twin_most, twin_fewest}
 use Rattle.ldp_range.specs.Related.{Follows, ResultsFollow, ValuesFollow}
 
 -- Inclusion: at each point of the ranges, a list has a value wherever it has one in ranges, and
@@ -26,6 +28,23 @@ abbrev pub StepSharpness : Type 0
 StepSharpness = (steps : List Step) (points : List ℤ)
     → results_of range_ops (map twice points) steps
     ≡ option_map (map twice) (results_of number_ops points steps)
+
+-- Isotony: where a list has a value over wider ranges, it has one over narrower ranges within them,
+-- and each range of it lies within that of the wider ones.
+abbrev pub Isotony : Type 0
+Isotony = ValuesFollow IsNarrower range_ops range_ops
+
+-- the same of the results of all steps
+abbrev pub StepIsotony : Type 0
+StepIsotony = ResultsFollow IsNarrower range_ops range_ops
+
+-- Inclusion of twins: where a list has a value in twins, it has one over each choice of ranges that
+-- they stand for, and each range of it is one of those that its twin stands for.
+abbrev pub TwinInclusion : Type 0
+TwinInclusion = ValuesFollow IsHeld range_ops twin_ops
+
+abbrev pub StepTwinInclusion : Type 0
+StepTwinInclusion = ResultsFollow IsHeld range_ops twin_ops
 
 -- Of any two types of values: where each operation of f follows that of g, so does the value of
 -- every list.
@@ -53,3 +72,20 @@ LeastIsNatural = (a : ℤ × ℤ) → pos 0 ≤ℤ pair_low_abs a
 abbrev pub AbsoluteOfOne : Type 0
 AbsoluteOfOne = (n : ℤ)
     → (pair_low_abs (twice n) ≡ magnitude n) × (pair_high_abs (twice n) ≡ magnitude n)
+
+-- a twin of ranges bounds the least absolute value of each of them, from above and from below
+abbrev pub TwinMost : Type 0
+TwinMost = (range : ℤ × ℤ) (twin : TwinPair) → IsHeld range twin
+    → pair_low_abs range ≤ℤ twin_most twin
+
+abbrev pub TwinFewest : Type 0
+TwinFewest = (range : ℤ × ℤ) (twin : TwinPair) → IsHeld range twin
+    → twin_fewest twin ≤ℤ pair_low_abs range
+
+-- the twin of one range stands for it
+abbrev pub OwnTwin : Type 0
+OwnTwin = (range : ℤ × ℤ) → range.0 ≤ℤ range.1 → IsHeld range (ends_twin range)
+
+-- a range, twice, stands for each number in it
+abbrev pub TwinOfNumbers : Type 0
+TwinOfNumbers = (n : ℤ) (range : ℤ × ℤ) → LiesIn n range → IsHeld (twice n) (range, range)

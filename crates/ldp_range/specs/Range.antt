@@ -12,6 +12,12 @@ pub record LiesIn (n : ℤ) (pair : ℤ × ℤ) : Type 0 where
   pub low : pair.0 ≤ℤ n
   pub high : n ≤ℤ pair.1
 
+-- the range lies within the other
+pub record IsNarrower (narrow wide : ℤ × ℤ) : Type 0 where
+  pub low : wide.0 ≤ℤ narrow.0
+  pub ordered : narrow.0 ≤ℤ narrow.1
+  pub high : narrow.1 ≤ℤ wide.1
+
 -- the least range that holds both
 abbrev pub pair_hull : ℤ × ℤ → ℤ × ℤ → ℤ × ℤ
 pair_hull a b = (int_min a.0 b.0, int_max a.1 b.1)

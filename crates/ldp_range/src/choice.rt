@@ -1,4 +1,4 @@
-ghost use Rattle.std.specs.Prelude.{◌≡◌, ◌≤ℤ◌, int_le, pos, unsigned_abs, IfSome, if◌then◌else◌};
+ghost use Rattle.std.specs.Prelude.{◌≡◌, ◌≤ℤ◌, ◌-ℤ◌, int_le, pos, unsigned_abs, IfSome, if◌then◌else◌};
 ghost use Rattle.std.specs.Int.{int_min, int_max};
 ghost use Rattle.ldp_num.specs.Number.{IsNumber};
 ghost use Rattle.ldp_range.specs.Choice.{of_both};
@@ -74,4 +74,14 @@ pub fn magnitude(x: i128) -> i128
     ensures number { IsNumber result }
 {
     if x < 0 { -x } else { x }
+}
+
+// The number on the other side of 0, as far from it.
+#[inline(always)]
+pub fn opposite(x: i128) -> i128
+    requires { IsNumber x }
+    ensures value { result ≡ pos 0 -ℤ x }
+    ensures number { IsNumber result }
+{
+    -x
 }

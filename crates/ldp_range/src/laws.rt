@@ -1,5 +1,7 @@
 //! The laws of ranges, for a formula as a whole, and for a range.
 ghost use Rattle.ldp_range.specs.Laws.{Inclusion, StepInclusion, Sharpness, StepSharpness, Following};
+ghost use Rattle.ldp_range.specs.Laws.{Isotony, StepIsotony, TwinInclusion, StepTwinInclusion};
+ghost use Rattle.ldp_range.specs.Laws.{TwinMost, TwinFewest, OwnTwin, TwinOfNumbers};
 ghost use Rattle.ldp_range.specs.Laws.{HullHolds, AbsoluteBounds, LeastIsNatural, AbsoluteOfOne};
 
 /// A run in ranges holds each run at a point of its ranges.
@@ -12,6 +14,26 @@ pub fn inclusion()
 pub fn sharpness()
     ensures value { Sharpness }
     ensures steps { StepSharpness }
+{}
+
+/// A run over narrower ranges lies within each run over ranges that they lie in.
+pub fn isotony()
+    ensures value { Isotony }
+    ensures steps { StepIsotony }
+{}
+
+/// A run in twins stands for each run over ranges that its twins stand for.
+pub fn twin_inclusion()
+    ensures value { TwinInclusion }
+    ensures steps { StepTwinInclusion }
+{}
+
+/// What a twin bounds, the twin of one range, and a twin of numbers.
+pub fn twins()
+    ensures most { TwinMost }
+    ensures fewest { TwinFewest }
+    ensures own { OwnTwin }
+    ensures numbers { TwinOfNumbers }
 {}
 
 /// Two runs of one list, over values that are related step by step.

@@ -1,4 +1,5 @@
 ghost use Rattle.std.specs.Prelude.{◌≡◌, ◌≤ℤ◌, ℤ, Some, IfSome};
+ghost use Rattle.std.specs.Int.{int_min, int_max};
 ghost use Rattle.ldp_num.specs.Number.{IsNumber};
 ghost use Rattle.ldp_num.specs.Ranges.{IsRange, ends};
 ghost use Rattle.ldp_range.specs.Range.{twice, pair_hull, pair_low_abs, pair_high_abs};
@@ -47,6 +48,28 @@ pub fn hull(a: Range, b: Range) -> Range
     Range {
         lo: lesser(a.lo, b.lo),
         hi: greater(a.hi, b.hi),
+    }
+}
+
+// Where the lesser of a number of each lies.
+#[inline(always)]
+pub(crate) fn least(x: Range, y: Range) -> Range
+    ensures { result ≡ (int_min x.0 y.0, int_min x.1 y.1) }
+{
+    Range {
+        lo: lesser(x.lo, y.lo),
+        hi: lesser(x.hi, y.hi),
+    }
+}
+
+// Where the greater of a number of each lies.
+#[inline(always)]
+pub(crate) fn greatest(x: Range, y: Range) -> Range
+    ensures { result ≡ (int_max x.0 y.0, int_max x.1 y.1) }
+{
+    Range {
+        lo: greater(x.lo, y.lo),
+        hi: greater(x.hi, y.hi),
     }
 }
 

@@ -1,7 +1,7 @@
 ghost use Rattle.std.specs.Prelude.{◌≡◌, ◌≤◌, Some, None, length, map, option_map, if◌then◌else◌};
 ghost use Rattle.std.specs.Bool.{OnFalse};
 ghost use Rattle.ldp_num.specs.Written.{written};
-ghost use Rattle.ldp_num.specs.StepList.{value_in, first_result};
+ghost use Rattle.ldp_num.specs.StepList.{at_places, value_in, first_result};
 
 use crate::list::List;
 use ldp_num::{Bench, Num};
@@ -21,10 +21,20 @@ impl List {
         if !bench.run(self.steps(), inputs) {
             return false;
         }
+        self.put_results(bench, results);
+        true
+    }
+
+    /// Writes the list's results, where the last run on the bench was one of its steps.
+    pub fn put_results<N: Num>(&self, bench: &Bench<N>, results: &mut [N])
+        requires run { length bench.now.results ≡ length self.now.steps }
+        requires results { length results.old ≡ length self.now.outs }
+        ensures { at_places (map N.meaning bench.now.results) self.now.outs
+            ≡ Some (map N.meaning results.new) }
+    {
         for (i, place) in self.outs().iter().enumerate() {
             results[i] = bench.at(*place);
         }
-        true
     }
 
     /// Runs the list on a bench: its first result, where it has a value over these inputs.

@@ -15,7 +15,7 @@ use std::process::Abort;
 use std::test::Fail;
 
 /// 10 ppm, in units of 10^-15.
-const TEN_PPM: i128 = 10_000_000_000;
+pub(crate) const TEN_PPM: i128 = 10_000_000_000;
 
 /// One column of three cells on the meridian 0, the last of them 1000 m high.
 const THREE_HEIGHTS: &[u8] = b"ncols 1 nrows 3 xllcenter 0 yllcenter 0 cellsize 1 0 0 1000";
@@ -70,10 +70,10 @@ const NINE_CELLS: &[u8] =
     b"ncols 3 nrows 3 xllcenter -105.5 yllcenter 39.5 cellsize 0.5 900 1500 2100 1200 1800 2400 300 1000 4000";
 
 /// A family of each kind, an oblique one on each side of the equator.
-const EACH_KIND: &[u8] =
+pub(crate) const EACH_KIND: &[u8] =
     b"[[family]]\nkind = \"tm\"\nlat = \"0\"\nlon = { from = \"-106\", step = \"0.5\", count = 4 }\nk0 = { from = \"1\", step = \"0.0001\", count = 4 }\n[[family]]\nkind = \"lambert\"\nlat = { from = \"39\", step = \"0.5\", count = 4 }\nlon = \"-105\"\nk0 = { from = \"1\", step = \"0.0001\", count = 4 }\n[[family]]\nkind = \"hotine\"\nlat = { from = \"39\", step = \"0.5\", count = 4 }\nlon = { from = \"-106\", step = \"0.5\", count = 4 }\nazimuth = { from = \"30\", step = \"10\", count = 4 }\nk0 = { from = \"1\", step = \"0.0001\", count = 4 }\n[[family]]\nkind = \"lambert2\"\nlat = { from = \"38\", step = \"0.5\", count = 4 }\nlat2 = { from = \"40\", step = \"0.5\", count = 4 }\nlon = \"-105\"\norigin = \"39\"\n[[family]]\nkind = \"hotine\"\nlat = { from = \"-3\", step = \"0.5\", count = 3 }\nlon = { from = \"-106\", step = \"0.5\", count = 4 }\nazimuth = { from = \"30\", step = \"10\", count = 4 }\nk0 = { from = \"1\", step = \"0.0001\", count = 4 }\n";
 
-fn bound<B: Bounds>(bounds: &mut B, grids: &Grids, count: u32, b: &DesignBox) -> Bound
+pub(crate) fn bound<B: Bounds>(bounds: &mut B, grids: &Grids, count: u32, b: &DesignBox) -> Bound
     requires over { IsOver grids.now count (B.problem bounds.old) }
     requires lies { LiesIn grids.now b.now }
     ensures { IsOver grids.now count (B.problem bounds.new) }
@@ -99,7 +99,7 @@ fn defined<B: Bounds>(bounds: &mut B, grids: &Grids, count: u32, d: &Design, cel
     bounds.defined(d, cell)
 }
 
-fn cost<B: Bounds>(bounds: &mut B, grids: &Grids, count: u32, d: &Design) -> Cost
+pub(crate) fn cost<B: Bounds>(bounds: &mut B, grids: &Grids, count: u32, d: &Design) -> Cost
     requires over { IsOver grids.now count (B.problem bounds.old) }
     requires admitted { IsAdmitted grids.now d.now }
     ensures { IsOver grids.now count (B.problem bounds.new) }
@@ -107,7 +107,7 @@ fn cost<B: Bounds>(bounds: &mut B, grids: &Grids, count: u32, d: &Design) -> Cos
     bounds.cost(d)
 }
 
-fn made(
+pub(crate) fn made(
     alloc: Global,
     grids: &Grids,
     cells: &Cells,
@@ -121,14 +121,14 @@ fn made(
     Plain::new(alloc, grids, cells, tolerance)
 }
 
-fn cells_of(alloc: Global, zone: &[u8], heights: &[u8]) -> Result<Cells, Fail> {
+pub(crate) fn cells_of(alloc: Global, zone: &[u8], heights: &[u8]) -> Result<Cells, Fail> {
     let zone = read_zone(alloc, zone)?;
     let heights = read_heights(alloc, heights)?;
     Ok(zone_cells(alloc, &zone, &heights)?)
 }
 
 /// The first design of a box.
-fn first_of(b: &DesignBox) -> Design {
+pub(crate) fn first_of(b: &DesignBox) -> Design {
     Design {
         family: b.family,
         lat: b.lat.lo,
@@ -335,7 +335,7 @@ fn lows_hold<B: Bounds>(
 }
 
 /// The high part of a box or the low one, or the box where it has one design.
-fn part_of(grids: &Grids, b: &DesignBox, high: bool) -> DesignBox
+pub(crate) fn part_of(grids: &Grids, b: &DesignBox, high: bool) -> DesignBox
     requires { LiesIn grids.now b.now }
     ensures { LiesIn grids.now result }
 {

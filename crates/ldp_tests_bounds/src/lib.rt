@@ -3,3 +3,5 @@
 
 #[cfg(test)]
 mod bounds;
+#[cfg(test)]
+mod stretches;

@@ -6,3 +6,5 @@
 mod cells;
 #[cfg(test)]
 mod design;
+#[cfg(test)]
+mod filled_rows;

@@ -16,3 +16,5 @@ mod projections;
 mod range;
 #[cfg(test)]
 mod series;
+#[cfg(test)]
+mod twin;

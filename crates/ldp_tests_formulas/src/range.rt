@@ -7,7 +7,7 @@ const ONE: i128 = 1_000_000_000_000_000;
 
 const LIMIT: i128 = 10_000_000_000_000_000_000;
 
-fn from_to(rt: &impl Abort, lo: i128, hi: i128) -> Range {
+pub fn from_to(rt: &impl Abort, lo: i128, hi: i128) -> Range {
     assert!(rt; -LIMIT <= lo && lo <= LIMIT && -LIMIT <= hi && hi <= LIMIT);
     hull(sharp(lo), sharp(hi))
 }
@@ -102,6 +102,9 @@ fn run_in_ranges(rt: HostRuntime) -> Result<(), Fail> {
 fn laws_are_called() {
     laws::inclusion();
     laws::sharpness();
+    laws::isotony();
+    laws::twin_inclusion();
+    laws::twins();
     laws::following::<i128, Range>();
     laws::hulls();
     laws::absolute_values();

@@ -1,7 +1,7 @@
 use Rattle.std.proofs.Common.{◌<◌, length, option_map, unsigned_abs, subst, sym}
 use Rattle.ldp_problem.proofs.Facts.{worst_at_cell}
 use Rattle.ldp_bound.specs.Plain.{plain_problem}
-use Rattle.ldp_answer.proofs.Designs.{IsKnown, has_text, answered, accepted_text}
+use Rattle.ldp_answer.proofs.Designs.{IsKnown, has_text, found_job, accepted_job}
 use Rattle.ldp_answer.proofs.design.certificate.Goals.{After-job_of}
 use Rattle.ldp_answer.proofs.design.certificate.Goals as goal
 
@@ -11,7 +11,7 @@ job_of-requires-clause-cell c =
     (worst_at_cell (plain_problem c.args.grids.now c.args.cells.now.cells
     (option_map unsigned_abs c.args.tolerance)) c.args.found.design c.requires.some)
 
-known : (c : After-job_of) → IsKnown c.args.grids.now c.args.cells.now c.args.names.now
+known : (c : After-job_of) → IsKnown c.args.grids.now c.args.cells.now c.args.names
     c.args.tolerance c.args.budget c.args.found c.job_of.result
 known c = record {
   grids = c.families-families.ensures.grids;
@@ -35,8 +35,8 @@ known c = record {
 pub returns-clause-valid : goal.returns-clause-valid
 returns-clause-valid c = has_text _ _ _ _ _ _ _ (known c)
 
-pub returns-clause-answer : goal.returns-clause-answer
-returns-clause-answer c = answered _ _ _ _ _ _ _ (known c)
+pub returns-clause-job : goal.returns-clause-job
+returns-clause-job c = found_job _ _ _ _ _ _ _ (known c)
 
 pub returns-clause-accepted : goal.returns-clause-accepted
-returns-clause-accepted c = accepted_text _ _ _ _ _ _ _ (known c)
+returns-clause-accepted c = accepted_job _ _ _ _ _ _ _ (known c)

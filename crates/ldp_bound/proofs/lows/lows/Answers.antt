@@ -3,6 +3,7 @@ use Rattle.ldp_problem.specs.Costs.{at_cells}
 use Rattle.ldp_bound.specs.Kept.{kept_lower}
 use Rattle.ldp_bound.specs.Tally.{tally_of}
 use Rattle.ldp_bound.proofs.Loops.{all_zero}
+use Rattle.ldp_bound.proofs.Sweeps.{same_lows}
 use Rattle.ldp_bound.proofs.lows.lows.Goals as goal
 
 pub returns-in_default-clause-value : goal.returns-in_default-clause-value
@@ -16,4 +17,6 @@ pub returns-clause-value : goal.returns-clause-value
 returns-clause-value c =
     c.told.ensures.value
     ∙ ap (λ (f : ℕ → ℕ). tally_of c.args.kept.now.tolerance (at_cells f c.args.kept.now.count))
-    (sym c.in-Some.ensures.tells.lows)
+    (sym (same_lows c.args.kept.now.grids c.args.kept.now.kinds c.args.b.now
+    c.in-Some.stretched.now c.prepared.result.now c.begun.new.inputs c.in-Some.ensures.tells
+    c.prepared.ensures))

@@ -3,13 +3,16 @@ use Rattle.std.specs.Prelude.{Option}
 use Rattle.ldp_bound.specs.Kept.{kept_delta}
 use Rattle.ldp_bound.specs.Tally.{cost_over}
 use Rattle.ldp_bound.proofs.Loops.{unusable_at}
+use Rattle.ldp_bound.proofs.Sweeps.{same_sizes}
 use Rattle.ldp_bound.proofs.sizes.cost.Goals as goal
 
 pub returns-clause-value : goal.returns-clause-value
 returns-clause-value c =
     c.told.ensures.value
     ∙ ap (λ (f : ℕ → Option ℕ). cost_over c.args.kept.now.tolerance f c.args.kept.now.count)
-    (sym c.in-Some.ensures.tells.sizes)
+    (sym (same_sizes c.args.kept.now.grids c.args.kept.now.kinds c.args.d.now
+    c.in-Some.stretched.now c.prepared.result.now c.begun.new.inputs c.in-Some.ensures.tells
+    c.prepared.ensures))
 
 pub returns-in_default-clause-value : goal.returns-in_default-clause-value
 returns-in_default-clause-value c =

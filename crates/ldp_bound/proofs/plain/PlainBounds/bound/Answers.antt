@@ -8,8 +8,8 @@ use Rattle.ldp_bound.specs.Tally.{single_bound}
 use Rattle.ldp_bound.proofs.Told.{cost_told, first_admitted, single_told, low_told}
 use Rattle.ldp_bound.proofs.plain.PlainBounds.bound.Goals as goal
 
-pub cost-cost-requires-clause-admitted : goal.cost-cost-requires-clause-admitted
-cost-cost-requires-clause-admitted c =
+pub cost_by_stretches-cost-requires : goal.cost_by_stretches-cost-requires
+cost_by_stretches-cost-requires c =
     subst (IsAdmitted c.args.self.now.kept.grids) (sym c.first_of.ensures)
     (first_admitted c.args.self.now.kept.grids c.args.b.now c.requires)
 
@@ -19,7 +19,7 @@ returns-then-is_single-clause-value c =
     let p : Problem = kept_problem kept.grids kept.kinds kept.count kept.tolerance in
     let single : IsSingle c.args.b.now = search (rules, c.if-is_single.ensures.single) in
     c.bound_of_single.ensures
-    ∙ ap single_bound (c.cost-cost.ensures.value ∙ cost_told p c.first_of.result
+    ∙ ap single_bound (c.cost_by_stretches-cost.ensures.value ∙ cost_told p c.first_of.result
     ∙ ap (cost_of p) c.first_of.ensures)
     ∙ single_told p c.args.b.now kept.sound c.requires (sym c.if-is_single.ensures.value) single
 
@@ -28,5 +28,5 @@ returns-clause-value c =
     let kept = c.args.self.now.kept in
     c.bound.ensures
     ∙ low_told (kept_problem kept.grids kept.kinds kept.count kept.tolerance) c.args.b.now
-    c.lows.result
-    (sym c.if-is_single.ensures.value) c.lows.ensures.value
+    c.lows_by_stretches-benches.result.0
+    (sym c.if-is_single.ensures.value) c.lows_by_stretches-benches.ensures.value

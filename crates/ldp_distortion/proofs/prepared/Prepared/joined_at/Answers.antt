@@ -1,5 +1,5 @@
 use Rattle.std.proofs.Common.{◌≡◌, map, length, take, ap, ◌∙◌, subst}
-use Rattle.std.specs.Prelude.{Some, None, option_map}
+use Rattle.std.specs.Prelude.{None, option_map}
 use Rattle.ldp_num.specs.Written.{written}
 use Rattle.ldp_distortion.specs.Prepared.{PreparedCells, joined_at}
 use Rattle.ldp_distortion.proofs.Joints.{at_undefined, at_joint}

@@ -8,7 +8,7 @@ use Rattle.ldp_num.specs.StepList.{value}
 use Rattle.ldp_distortion.specs.Inputs.{numbers}
 use Rattle.ldp_distortion.specs.Distortion.{cell_results}
 use Rattle.ldp_distortion.proofs.Rows.{rows_more, full_rows}
-use Rattle.ldp_distortion.proofs.Runs.{numbers_all, run_numbers}
+use Rattle.ldp_distortion.proofs.Runs.{numbers_all}
 use Rattle.ldp_distortion.proofs.table.Table.over.Goals as goal
 
 pub loop-cell-preserved : goal.loop-cell-preserved
@@ -19,8 +19,7 @@ loop-cell-preserved c =
     let outs : length c.outs-width.result.now ≡ length c.args.list.now.outs = ap length c.outs-width.ensures.outs in
     let width : length row ≡ length c.outs-width.result.now = omega (arith, length-take {A = Fix}) in
     let is_row : cell_results c.args.list.now c.get.result ≡ (if c.run_into.result then Some row else None) =
-    ap (value c.args.list.now) (sym c.cell_inputs-inputs.ensures)
-    ∙ run_numbers c.args.list.now c.cell_inputs-inputs.result c.run_into.result c.run_into.new.results c.run_into.ensures.value in
+    ap (value c.args.list.now) (sym c.cell_inputs-inputs.ensures) ∙ c.run_into.ensures.value in
     let flags : c.push.new.self.items ≡ c.loop-cell.defined.items ++ c.run_into.result ∷ [] = c.in_ok-push.ensures.items in
     let flagged : length (c.loop-cell.defined.items ++ c.run_into.result ∷ []) ≡ length c.loop-cell.defined.items + 1 =
     length_push c.loop-cell.defined.items c.run_into.result in
@@ -28,7 +27,7 @@ loop-cell-preserved c =
     let filled : length (c.loop-cell.numbers.items ++ row) ≡ length c.loop-cell.numbers.items + length row =
     length-append c.loop-cell.numbers.items row in
     record {
-      room = c.run_into.ensures.room ∙ so_far.room;
+      ready = c.run_into.ensures.ready;
       count = ap length flags ∙ flagged ∙ ap (λ n. n + 1) so_far.count;
       full = ap length all ∙ omega arith;
       in_range = rw all (All-append IsNumber c.loop-cell.numbers.items row so_far.in_range (numbers_all c.run_into.new.results));

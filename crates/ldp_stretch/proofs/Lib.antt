@@ -1,0 +1,4 @@
+mod Lists
+mod Columns
+mod TwinRuns
+mod Spans

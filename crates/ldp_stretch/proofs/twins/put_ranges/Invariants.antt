@@ -1,0 +1,6 @@
+use Rattle.std.proofs.Common.{take}
+use Rattle.ldp_stretch.specs.Twins.{StandForRanges}
+use Rattle.ldp_stretch.proofs.twins.put_ranges.Given as goal
+
+abbrev pub invariant-loop-i : goal.invariant-loop-i
+invariant-loop-i l = StandForRanges (take l.i l.ranges) (take l.i l.twins)

@@ -1,0 +1,52 @@
+//! Twins of the results of the design list and of a hull, as inputs of the joint list.
+ghost use Rattle.std.specs.Prelude.{◌≡◌, length};
+ghost use Rattle.ldp_range.specs.Range.{twice};
+ghost use Rattle.ldp_range.specs.Twin.{IsHeld};
+ghost use Rattle.ldp_stretch.specs.Twins.{hull_twins, StandForRanges, StandForNumbers};
+
+use ldp_num::Fix;
+use ldp_range::{Range, Twin, sharp};
+
+/// Writes the twin of each range, of which there are as many.
+pub fn put_ranges(ranges: &[Range], twins: &mut [Twin])
+    requires { length twins.old ≡ length ranges.now }
+    ensures { StandForRanges ranges.now twins.new }
+{
+    for (i, range) in ranges.iter().enumerate() {
+        twins[i] = of_range(*range);
+    }
+}
+
+/// Writes the twin of each number, of which there are as many.
+pub fn put_numbers(numbers: &[Fix], twins: &mut [Twin])
+    requires { length twins.old ≡ length numbers.now }
+    ensures { StandForNumbers numbers.now twins.new }
+{
+    for (i, number) in numbers.iter().enumerate() {
+        twins[i] = of_number(*number);
+    }
+}
+
+/// Writes a hull as twins, of which there are as many.
+pub(crate) fn put_hull(hull: &[Range], twins: &mut [Twin])
+    requires { length twins.old ≡ length hull.now }
+    ensures { twins.new ≡ hull_twins hull.now }
+{
+    for (i, range) in hull.iter().enumerate() {
+        twins[i] = Twin::new(*range, *range);
+    }
+}
+
+fn of_range(range: Range) -> Twin
+    ensures { IsHeld range result }
+{
+    // The ends of a range are ordered.
+    let _low = range.lo();
+    Twin::of_range(range)
+}
+
+fn of_number(number: Fix) -> Twin
+    ensures { IsHeld (twice number.n) result }
+{
+    of_range(sharp(number.n))
+}

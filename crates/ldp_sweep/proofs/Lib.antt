@@ -1,0 +1,4 @@
+mod Values
+mod FirstUndefined
+mod Tallies
+mod Nodes

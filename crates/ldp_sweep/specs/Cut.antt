@@ -1,0 +1,55 @@
+-- Cells in order that are cut into stretches, and these into shorter ones. (Own choice of this
+-- project.)
+use Rattle.std.specs.Prelude.{◌≡◌, ◌<◌, ◌≤◌, ℕ, zero, suc, List, length, slice_get}
+use Rattle.std.specs.Prelude.{Option, None, Some, IsSome}
+use Rattle.ldp_sweep.specs.declared.node.Node.{Node}
+use Rattle.ldp_sweep.specs.declared.span.Span.{Span}
+use Rattle.ldp_sweep.specs.Tally.{number_at}
+
+-- the number of cells, the value at each where it is defined, what no value exceeds, and the nodes
+pub record Cut : Type 0 where
+  pub cells : ℕ
+  pub value : ℕ → Option ℕ
+  pub limit : ℕ
+  pub nodes : List Node
+
+abbrev pub first_cell : ℕ → Option Node → ℕ
+first_cell cells None = cells
+first_cell cells (Some node) = node.from
+
+-- Nodes are listed from the last cells to the first, each after its parts. So many of them cover
+-- the cells from this one on.
+abbrev pub start : ℕ → List Node → ℕ → ℕ
+start cells nodes zero = cells
+start cells nodes (suc count) = first_cell cells (slice_get nodes count)
+
+-- a node at a place: its cells are those that the nodes in front of its parts leave, down to its
+-- first, and its parts, where it has some, cover them
+pub record IsNode (cells : ℕ) (nodes : List Node) (at : ℕ) (node : Node) : Type 0 where
+  pub back : node.skip ≤ at
+  pub ordered : node.from ≤ node.to
+  pub inside : node.to ≤ cells
+  pub past : start cells nodes node.skip ≡ node.to
+  pub parts : node.skip < at → start cells nodes at ≡ node.from
+
+abbrev pub AreNodes : ℕ → List Node → Type 0
+AreNodes cells nodes =
+    (at : ℕ) (node : Node) → slice_get nodes at ≡ Some node → IsNode cells nodes at node
+
+-- there is a cell, and the nodes cover all cells
+pub record IsCut (cells : ℕ) (nodes : List Node) : Type 0 where
+  pub some : 0 < cells
+  pub begins : start cells nodes (length nodes) ≡ 0
+  pub each : AreNodes cells nodes
+
+-- the values at the cells from one to another are defined and lie within a span
+pub record IsWithin (value : ℕ → Option ℕ) (from to : ℕ) (span : Span) : Type 0 where
+  pub defined : (cell : ℕ) → from ≤ cell → cell < to → IsSome (value cell)
+  pub low : (cell : ℕ) → from ≤ cell → cell < to → span.low ≤ number_at value cell
+  pub high : (cell : ℕ) → from ≤ cell → cell < to → number_at value cell ≤ span.high
+
+-- and those at the cells of the node at a place
+abbrev pub IsSpan : Cut → ℕ → Span → Type 0
+IsSpan cut at span =
+    (node : Node) → slice_get cut.nodes at ≡ Some node
+    → IsWithin cut.value node.from node.to span

@@ -1,0 +1,4 @@
+pub mod Cut
+pub mod Tally
+pub mod Peaks
+pub mod Grown

@@ -1,0 +1,43 @@
+ghost use Rattle.std.specs.Prelude.{◌<◌, IfOk, OnOk};
+ghost use Rattle.ldp_sweep.specs.Cut.{IsCut};
+ghost use Rattle.ldp_sweep.specs.Grown.{IsGrownFrom};
+
+use crate::Memory;
+use crate::node::Node;
+use std::alloc::Global;
+
+/// The most cells of a stretch that has no parts.
+const MOST_CELLS: u32 = 8;
+
+/// The nodes over so many cells: a stretch of more than eight is cut into four of about equal
+/// length.
+pub fn nodes_of(alloc: Global, cells: u32) -> Result<Vec<Node>, Memory>
+    requires { 0 < cells }
+    ensures { IfOk result (λ nodes. IsCut cells nodes.items) }
+{
+    let mut nodes = Vec::new(alloc);
+    grow(&mut nodes, 0, cells)?;
+    Ok(nodes)
+}
+
+/// Adds the parts of a stretch, the last first, and then its node.
+fn grow(nodes: &mut Vec<Node>, from: u32, to: u32) -> Result<(), Memory>
+    requires { from < to }
+    ensures { OnOk result (IsGrownFrom nodes.old.items nodes.new.items from to) }
+{
+    let skip = nodes.len();
+    let node = Node { from, to, skip };
+    if to - from <= MOST_CELLS {
+        nodes.push(node)?;
+        return Ok(());
+    }
+    let part = (to - from) / 4 + 1;
+    let mut end = to;
+    while from < end {
+        let begin = from.max(end.saturating_sub(part));
+        grow(nodes, begin, end)?;
+        end = begin;
+    }
+    nodes.push(node)?;
+    Ok(())
+}
