@@ -1,7 +1,7 @@
 #!/usr/bin/env bash
 # Processor time and peak memory of `design`, `check` and `eval` on one zone cut into more and more
 # cells, over hills and over heights that jump from cell to cell. Give the program, or take the one
-# of crates/ldp, built before: (cd crates/ldp && rt run -- eval data/one_cell.asc -105 1)
+# of crates/ldp, built before: (cd crates/ldp && rt run -- sample 1)
 set -eu
 here=$(cd "$(dirname "$0")" && pwd)
 program=${1:-$here/../crates/ldp/out/ldp}
