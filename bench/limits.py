@@ -47,6 +47,14 @@ def grid(columns, rows, cellsize, west, south, every=1):
         yield " ".join(map(str, heights)) + "\n"
 
 
+def lone():
+    """4,000,000 places, of which the one at 40 N, 105 W alone has a height."""
+    yield "ncols 2000\nnrows 2000\nxllcenter -105.5\nyllcenter 39.5\ncellsize 0.0005\n"
+    for row in range(2000):
+        places = ("0" if (row, column) == (999, 1000) else "-9999" for column in range(2000))
+        yield " ".join(places) + "\n"
+
+
 def star(points):
     """A ring of so many points about the cells, in and out by turns."""
     corners = []
@@ -139,6 +147,7 @@ def make_files(folder):
     with open(at("values"), "wb") as file:
         file.write(b"a = [" + b"0," * (MOST_BYTES // 2 - 3) + b"]")
     write(at("places"), grid(2000, 2000, "0.0005", -105.5, 39.5, 21))
+    write(at("lone"), lone())
     write(at("cells"), grid(500, 400, "0.001", -105.25, 39.8))
     write(at("more_cells"), grid(200_001, 1, "0.000001", -105.25, 39.8))
     write(at("star"), star(10_000))
@@ -197,6 +206,8 @@ RUNS = [
      ["design", "zone", "heights", "sixteen_many", *MILLION], 7, "budget 1000000 spent"),
     ("2 families of 10^10 designs, 990,226 nodes",
      ["design", "zone", "heights", "crossed", *MILLION], 0, "ldp job 2"),
+    ("4,000,000 places, 990,226 nodes",
+     ["design", "zone", "lone", "crossed", *MILLION], 0, "ldp job 2"),
     ("3 families of 10^10 designs, budget 1,000,000",
      ["design", "zone", "heights", "more_crossed", *MILLION], 7, "budget 1000000 spent"),
     ("1,999,999 nodes, each design a leaf",

@@ -1,5 +1,6 @@
 #!/usr/bin/env python3
-"""Runs `design`, `check` and `eval` over the problem of a folder: measure.py PROGRAM FOLDER NAME."""
+"""Runs `design`, `check` and `eval` over the problem of a folder: measure.py PROGRAM FOLDER NAME.
+"""
 import hashlib
 import resource
 import subprocess
@@ -19,14 +20,16 @@ def run(*words):
     before = spent()[0]
     done = subprocess.run([program, *words], capture_output=True)
     seconds, peak = spent()
-    print(f"{name} {words[0]}: status {done.returncode}, {seconds - before:.2f} s, {peak} MB at most so far")
+    used = f"{seconds - before:.2f} s, {peak} MB at most so far"
+    print(f"{name} {words[0]}: status {done.returncode}, {used}")
     return done.stdout
 
 
 found = run("design", *problem)
 with open(certificate, "wb") as out:
     out.write(found)
-nodes = [line for line in found.decode().splitlines() if line.startswith(("nodes", "cells", "worst"))]
-print("  " + ", ".join(nodes) + ", text " + hashlib.sha256(found).hexdigest()[:16])
+told = ("nodes", "cells", "worst")
+lines = [line for line in found.decode().splitlines() if line.startswith(told)]
+print("  " + ", ".join(lines) + ", text " + hashlib.sha256(found).hexdigest()[:16])
 run("check", *problem, certificate)
 run("eval", problem[1], "-105.2", "1.00025")

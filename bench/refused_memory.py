@@ -24,6 +24,7 @@ COMMANDS = [
     ["table", *THREE, "job"],
     ["table", *THREE, "job", "--json"],
     ["wkt", "grids", "job"],
+    ["sample", "1"],
     ["check", *THREE, "wrong"],
     ["check", *THREE, "cut"],
     ["design", "empty", "heights", "grids"],

@@ -8,7 +8,7 @@ program=${1:-$here/../crates/ldp/out/ldp}
 folder=$(mktemp -d)
 trap 'rm -rf "$folder"' EXIT
 for shape in smooth wild; do
-  for size in 28x24 61x51 122x102 244x204 488x408; do
+  for size in 28x24 35x29 61x51 122x102 244x204 488x408; do
     python3 "$here/make_zone.py" "$folder" "${size%x*}" "${size#*x}" "$shape"
     python3 "$here/measure.py" "$program" "$folder" "$shape $size"
   done
