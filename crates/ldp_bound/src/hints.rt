@@ -1,7 +1,8 @@
 /// How many cells are kept.
 const COUNT: usize = 8;
 
-/// The cells that had the greatest value in the last calls.
+/// The cells that had the greatest value in the last bounds of boxes of more than one design; at
+/// first the first cell.
 #[derive(Drop)]
 pub struct Hints {
     cells: [u32; COUNT],
@@ -17,6 +18,7 @@ impl Hints {
         }
     }
 
+    /// The cells, some of them perhaps alike.
     pub fn cells(&self) -> &[u32] {
         &self.cells
     }
