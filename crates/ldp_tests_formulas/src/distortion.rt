@@ -3,6 +3,7 @@ ghost use Rattle.ldp_num.specs.Number.{IsNumber};
 ghost use Rattle.ldp_distortion.specs.Inputs.{AreNumbers};
 ghost use Rattle.ldp_distortion.specs.Prepared.{FitTogether};
 
+use crate::num::LIMIT;
 use ldp_cells::area_cells;
 use ldp_distortion::{Inputs, Prepared, Worst};
 use ldp_heights::read_heights;
@@ -12,9 +13,6 @@ use ldp_series::{List, Lists};
 use std::alloc::{AllocError, Global};
 use std::process::Abort;
 use std::test::Fail;
-
-/// The greatest number, in units of 10^-15.
-const LIMIT: i128 = 10_000_000_000_000_000_000;
 
 const DEGREE: i128 = 1_000_000_000_000;
 

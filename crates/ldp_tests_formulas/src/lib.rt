@@ -1,4 +1,5 @@
-//! Tests of the crates below, over their public calls alone, a file for each crate: numbers, formulas and distortions.
+//! Tests of the crates below, over their public calls alone, a file for each crate: numbers, formulas
+//! and distortions.
 //! A crate with tests of its own would be proved twice.
 #![tactic(auto)]
 

@@ -1,15 +1,12 @@
 ghost use Rattle.std.specs.Prelude.{IfOk};
 ghost use Rattle.ldp_series.specs.Shape.{HasShape};
 
+use crate::num::{LIMIT, ONE};
 use ldp_num::{Bench, Fix, MOST_STEPS, Num};
 use ldp_range::{Range, hull, sharp};
 use ldp_series::{Build, List, Memory};
 use std::alloc::Global;
 use std::test::Fail;
-
-const ONE: i128 = 1_000_000_000_000_000;
-
-const LIMIT: i128 = 10_000_000_000_000_000_000;
 
 /// x² - x, and x².
 fn parabola(alloc: Global) -> Result<List, Memory>

@@ -1,11 +1,18 @@
+ghost use Rattle.std.specs.Prelude.{◌≡◌, length};
 ghost use Rattle.ldp_num.specs.Number.{IsNumber};
+ghost use Rattle.ldp_num.specs.Steps.{StepsFit};
+ghost use Rattle.ldp_num.specs.Again.{IsAgain};
 
-use ldp_num::{Bench, Fix, Num, Step, add, div, eta, mul, need, radians, sq, sqrt, sub};
+use ldp_num::{
+    Bench, Fix, Num, Step, add, dependents, div, eta, mul, need, radians, sq, sqrt, sub,
+};
 use std::test::Fail;
 
-const ONE: i128 = 1_000_000_000_000_000;
+/// 1, in units of 10^-15.
+pub const ONE: i128 = 1_000_000_000_000_000;
 
-const LIMIT: i128 = 10_000_000_000_000_000_000;
+/// The greatest number, in units of 10^-15.
+pub const LIMIT: i128 = 10_000_000_000_000_000_000;
 
 fn result(step: Step, a: i128, b: i128) -> Option<i128>
     requires left { IsNumber a }
@@ -79,6 +86,57 @@ fn runs(rt: HostRuntime) -> Result<(), Fail> {
             None
         };
         assert_eq!(rt; root, want, "of {input}");
+    }
+    Ok(())
+}
+
+/// The last results over 3 and each of two numbers, where the second run takes up the first.
+fn taken_up(
+    bench: &mut Bench<Fix>,
+    steps: &[Step],
+    again: &[u16],
+    first: Fix,
+    second: Fix,
+) -> [Option<i128>; 2]
+    requires fit { StepsFit 2 0 steps.now }
+    requires five { length steps.now ≡ 5 }
+    requires room { bench.old.room ≡ 5 }
+    requires again { IsAgain 1 steps.now again.now }
+    ensures { bench.new.room ≡ 5 }
+{
+    let three = Fix::constant(3 * ONE);
+    if !bench.run(steps, &[three, first]) {
+        return [None, None];
+    }
+    let before = Some(bench.at(4).n);
+    if !bench.run_again(steps, &[three, second], again) {
+        return [before, None];
+    }
+    [before, Some(bench.at(4).n)]
+}
+
+// The square root of x squared and y, where y alone changes: x is not squared again.
+#[test]
+fn runs_again(rt: HostRuntime) -> Result<(), Fail> {
+    let steps = [
+        Step::Input(0),
+        Step::Input(1),
+        Step::Sq(0),
+        Step::Add(2, 1),
+        Step::Sqrt(3),
+    ];
+    let again = dependents(rt.alloc(), &steps, 1)?;
+    assert_eq!(rt; again.as_slice(), [1, 3, 4].as_slice());
+    let mut bench: Bench<Fix> = Bench::with_room(rt.alloc(), 5)?;
+    for (first, second, want) in [
+        (7 * ONE, 16 * ONE, [Some(4 * ONE), Some(5 * ONE)]),
+        (16 * ONE, -10 * ONE, [Some(5 * ONE), None]),
+    ] {
+        assert!(rt; -LIMIT <= first && first <= LIMIT && bench.room() == 5);
+        assert!(rt; -LIMIT <= second && second <= LIMIT);
+        let (first, second) = (Fix::constant(first), Fix::constant(second));
+        let roots = taken_up(&mut bench, &steps, &again, first, second);
+        assert_eq!(rt; roots, want);
     }
     Ok(())
 }

@@ -1,18 +1,16 @@
+use crate::num::{LIMIT, ONE};
 use ldp_num::{Bench, Num, Step};
 use ldp_range::{Range, hull, laws, sharp};
 use std::process::Abort;
 use std::test::Fail;
-
-const ONE: i128 = 1_000_000_000_000_000;
-
-const LIMIT: i128 = 10_000_000_000_000_000_000;
 
 pub fn from_to(rt: &impl Abort, lo: i128, hi: i128) -> Range {
     assert!(rt; -LIMIT <= lo && lo <= LIMIT && -LIMIT <= hi && hi <= LIMIT);
     hull(sharp(lo), sharp(hi))
 }
 
-fn result(step: Step, a: Range, b: Range) -> Option<Range> {
+/// The result of a step over two operands.
+pub fn result<N: Num>(step: Step, a: N, b: N) -> Option<N> {
     match step {
         Step::Const(_) => None,
         Step::Input(_) => None,
