@@ -22,8 +22,12 @@ const THREE_HEIGHTS: &[u8] = b"ncols 1 nrows 3 xllcenter 0 yllcenter 0 cellsize 
 
 const THREE_HEIGHTS_ZONE: &[u8] = b"POLYGON ((-1 -1, 1 -1, 1 3, -1 3, -1 -1))";
 
-const TWO_SCALES: &[u8] =
-    b"[[family]]\nkind = \"tm\"\nlat = \"0\"\nlon = \"0\"\nk0 = { from = \"1\", step = \"0.00008\", count = 2 }\n";
+const TWO_SCALES: &[u8] = b"\
+    [[family]]\n\
+    kind = \"tm\"\n\
+    lat = \"0\"\n\
+    lon = \"0\"\n\
+    k0 = { from = \"1\", step = \"0.00008\", count = 2 }\n";
 
 /// The cells beyond the tolerance, the largest absolute distortion and its cell, for each of two
 /// designs and for the box of both.
@@ -63,15 +67,54 @@ const ONE_CELL: &[u8] = b"ncols 1 nrows 1 xllcenter -105 yllcenter 40 cellsize 1
 const AROUND: &[u8] = b"POLYGON ((-106 39, -104 39, -104 41, -106 41, -106 39))";
 
 /// A design too far from the cell, and one whose scale factor is 10 ppm above 1.
-const FAR_AND_NEAR: &[u8] =
-    b"[[family]]\nkind = \"tm\"\nlat = \"0\"\nlon = \"-95\"\nk0 = \"1\"\n[[family]]\nkind = \"tm\"\nlat = \"0\"\nlon = \"-105\"\nk0 = \"1.00001\"\n";
+const FAR_AND_NEAR: &[u8] = b"\
+    [[family]]\n\
+    kind = \"tm\"\n\
+    lat = \"0\"\n\
+    lon = \"-95\"\n\
+    k0 = \"1\"\n\
+    [[family]]\n\
+    kind = \"tm\"\n\
+    lat = \"0\"\n\
+    lon = \"-105\"\n\
+    k0 = \"1.00001\"\n";
 
-const NINE_CELLS: &[u8] =
-    b"ncols 3 nrows 3 xllcenter -105.5 yllcenter 39.5 cellsize 0.5 900 1500 2100 1200 1800 2400 300 1000 4000";
+const NINE_CELLS: &[u8] = b"\
+    ncols 3 nrows 3 xllcenter -105.5 yllcenter 39.5 cellsize 0.5 \
+    900 1500 2100 \
+    1200 1800 2400 \
+    300 1000 4000";
 
 /// A family of each kind, an oblique one on each side of the equator.
-pub(crate) const EACH_KIND: &[u8] =
-    b"[[family]]\nkind = \"tm\"\nlat = \"0\"\nlon = { from = \"-106\", step = \"0.5\", count = 4 }\nk0 = { from = \"1\", step = \"0.0001\", count = 4 }\n[[family]]\nkind = \"lambert\"\nlat = { from = \"39\", step = \"0.5\", count = 4 }\nlon = \"-105\"\nk0 = { from = \"1\", step = \"0.0001\", count = 4 }\n[[family]]\nkind = \"hotine\"\nlat = { from = \"39\", step = \"0.5\", count = 4 }\nlon = { from = \"-106\", step = \"0.5\", count = 4 }\nazimuth = { from = \"30\", step = \"10\", count = 4 }\nk0 = { from = \"1\", step = \"0.0001\", count = 4 }\n[[family]]\nkind = \"lambert2\"\nlat = { from = \"38\", step = \"0.5\", count = 4 }\nlat2 = { from = \"40\", step = \"0.5\", count = 4 }\nlon = \"-105\"\norigin = \"39\"\n[[family]]\nkind = \"hotine\"\nlat = { from = \"-3\", step = \"0.5\", count = 3 }\nlon = { from = \"-106\", step = \"0.5\", count = 4 }\nazimuth = { from = \"30\", step = \"10\", count = 4 }\nk0 = { from = \"1\", step = \"0.0001\", count = 4 }\n";
+pub(crate) const EACH_KIND: &[u8] = b"\
+    [[family]]\n\
+    kind = \"tm\"\n\
+    lat = \"0\"\n\
+    lon = { from = \"-106\", step = \"0.5\", count = 4 }\n\
+    k0 = { from = \"1\", step = \"0.0001\", count = 4 }\n\
+    [[family]]\n\
+    kind = \"lambert\"\n\
+    lat = { from = \"39\", step = \"0.5\", count = 4 }\n\
+    lon = \"-105\"\n\
+    k0 = { from = \"1\", step = \"0.0001\", count = 4 }\n\
+    [[family]]\n\
+    kind = \"hotine\"\n\
+    lat = { from = \"39\", step = \"0.5\", count = 4 }\n\
+    lon = { from = \"-106\", step = \"0.5\", count = 4 }\n\
+    azimuth = { from = \"30\", step = \"10\", count = 4 }\n\
+    k0 = { from = \"1\", step = \"0.0001\", count = 4 }\n\
+    [[family]]\n\
+    kind = \"lambert2\"\n\
+    lat = { from = \"38\", step = \"0.5\", count = 4 }\n\
+    lat2 = { from = \"40\", step = \"0.5\", count = 4 }\n\
+    lon = \"-105\"\n\
+    origin = \"39\"\n\
+    [[family]]\n\
+    kind = \"hotine\"\n\
+    lat = { from = \"-3\", step = \"0.5\", count = 3 }\n\
+    lon = { from = \"-106\", step = \"0.5\", count = 4 }\n\
+    azimuth = { from = \"30\", step = \"10\", count = 4 }\n\
+    k0 = { from = \"1\", step = \"0.0001\", count = 4 }\n";
 
 pub(crate) fn bound<B: Bounds>(bounds: &mut B, grids: &Grids, count: u32, b: &DesignBox) -> Bound
     requires over { IsOver grids.now count (B.problem bounds.old) }

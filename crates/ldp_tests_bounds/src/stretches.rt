@@ -12,8 +12,11 @@ use std::process::Abort;
 use std::test::Fail;
 
 /// One row of 130 cells at latitude 40° and height 0, from longitude -105° to -104.871°.
-const ONE_ROW: &[u8] =
-    b"ncols 130 nrows 1 xllcenter -105 yllcenter 40 cellsize 0.001 0 0 0 0 0 0 0 0 0 0 0 0 0 0 0 0 0 0 0 0 0 0 0 0 0 0 0 0 0 0 0 0 0 0 0 0 0 0 0 0 0 0 0 0 0 0 0 0 0 0 0 0 0 0 0 0 0 0 0 0 0 0 0 0 0 0 0 0 0 0 0 0 0 0 0 0 0 0 0 0 0 0 0 0 0 0 0 0 0 0 0 0 0 0 0 0 0 0 0 0 0 0 0 0 0 0 0 0 0 0 0 0 0 0 0 0 0 0 0 0 0 0 0 0 0 0 0 0 0 0";
+const ONE_ROW: &[u8] = b"\
+    ncols 130 nrows 1 xllcenter -105 yllcenter 40 cellsize 0.001 \
+    0 0 0 0 0 0 0 0 0 0 0 0 0 0 0 0 0 0 0 0 0 0 0 0 0 0 0 0 0 0 0 0 0 0 0 0 0 0 0 0 0 0 0 0 0 0 0 \
+    0 0 0 0 0 0 0 0 0 0 0 0 0 0 0 0 0 0 0 0 0 0 0 0 0 0 0 0 0 0 0 0 0 0 0 0 0 0 0 0 0 0 0 0 0 0 0 \
+    0 0 0 0 0 0 0 0 0 0 0 0 0 0 0 0 0 0 0 0 0 0 0 0 0 0 0 0 0 0 0 0 0 0 0 0";
 
 /// A zone around them.
 const AROUND_ROW: &[u8] = b"POLYGON ((-106 39, -104 39, -104 41, -106 41, -106 39))";
@@ -22,15 +25,22 @@ const AROUND_ROW: &[u8] = b"POLYGON ((-106 39, -104 39, -104 41, -106 41, -106 3
 const ON_THE_PARALLEL: &[u8] =
     b"[[family]]\nkind = \"lambert\"\nlat = \"40\"\nlon = \"-105\"\nk0 = \"1.00002\"\n";
 
-/// 8 columns and 5 rows of heights up to 4200 m, half a degree wide.
-const WILD: &[u8] =
-    b"ncols 8 nrows 5 xllcenter -107 yllcenter 38 cellsize 0.5 300 3184 0 1500 4000 0 2500 0 0 0 300 4000 0 0 1500 300 4000 4000 0 1500 4000 4000 4000 2500 1500 4000 1500 300 1422 0 4000 1500 1500 0 2500 1500 2500 0 4000 1500";
+/// 8 columns and 5 rows of heights up to 4000 m, half a degree wide.
+const WILD: &[u8] = b"\
+    ncols 8 nrows 5 xllcenter -107 yllcenter 38 cellsize 0.5 \
+    300 3184 0 1500 4000 0 2500 0 \
+    0 0 300 4000 0 0 1500 300 \
+    4000 4000 0 1500 4000 4000 4000 2500 \
+    1500 4000 1500 300 1422 0 4000 1500 \
+    1500 0 2500 1500 2500 0 4000 1500";
 
 const AROUND_WILD: &[u8] = b"POLYGON ((-109 36, -101 36, -101 43, -109 43, -109 36))";
 
 /// 30 columns and 1 row, one degree wide: those in the east are too far for a family.
-const WIDE: &[u8] =
-    b"ncols 30 nrows 1 xllcenter -107 yllcenter 40 cellsize 1 2847 1434 2434 2034 2375 1868 281 383 1105 1941 2855 2720 266 248 2994 2873 1268 2650 2367 2790 1825 1165 2935 1580 2738 1421 92 1891 1455 688";
+const WIDE: &[u8] = b"\
+    ncols 30 nrows 1 xllcenter -107 yllcenter 40 cellsize 1 \
+    2847 1434 2434 2034 2375 1868 281 383 1105 1941 2855 2720 266 248 2994 2873 1268 2650 2367 \
+    2790 1825 1165 2935 1580 2738 1421 92 1891 1455 688";
 
 const AROUND_WIDE: &[u8] = b"POLYGON ((-108 38, -77 38, -77 41, -108 41, -108 38))";
 

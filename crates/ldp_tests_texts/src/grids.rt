@@ -16,7 +16,12 @@ const ZERO: Axis = Axis {
 /// The grids of docs/DESIGN_GRIDS.md: a text for each kind, and its family.
 const WORKED: [(&[u8], Family); 4] = [
     (
-        b"[[family]]\nkind = \"tm\"\nlat = \"39.75\"\nlon = { from = \"-105.7\", step = \"0.05\", count = 21 }\nk0 = { from = \"1\", step = \"0.000005\", count = 201 }\n",
+        b"\
+            [[family]]\n\
+            kind = \"tm\"\n\
+            lat = \"39.75\"\n\
+            lon = { from = \"-105.7\", step = \"0.05\", count = 21 }\n\
+            k0 = { from = \"1\", step = \"0.000005\", count = 201 }\n",
         Family {
             kind: Kind::Tm,
             lat: Axis {
@@ -41,7 +46,14 @@ const WORKED: [(&[u8], Family); 4] = [
         },
     ),
     (
-        b"[[family]]\nkind = \"lambert\"\nlat = { from = \"39.25\", step = \"0.05\", count = 21 }\nlon = \"-105.2\"\nk0 = { from = \"1\", step = \"0.000005\", count = 201 }\neasting = \"150000\"\nnorthing = \"-50000.0005\"\n",
+        b"\
+            [[family]]\n\
+            kind = \"lambert\"\n\
+            lat = { from = \"39.25\", step = \"0.05\", count = 21 }\n\
+            lon = \"-105.2\"\n\
+            k0 = { from = \"1\", step = \"0.000005\", count = 201 }\n\
+            easting = \"150000\"\n\
+            northing = \"-50000.0005\"\n",
         Family {
             kind: Kind::Lambert,
             lat: Axis {
@@ -66,7 +78,13 @@ const WORKED: [(&[u8], Family); 4] = [
         },
     ),
     (
-        b"[[family]]\nkind = \"hotine\"\nlat = \"44.5\"\nlon = { from = \"-123.5\", step = \"0.1\", count = 11 }\nazimuth = { from = \"-45\", step = \"1\", count = 61 }\nk0 = { from = \"0.99998\", step = \"0.000005\", count = 21 }\n",
+        b"\
+            [[family]]\n\
+            kind = \"hotine\"\n\
+            lat = \"44.5\"\n\
+            lon = { from = \"-123.5\", step = \"0.1\", count = 11 }\n\
+            azimuth = { from = \"-45\", step = \"1\", count = 61 }\n\
+            k0 = { from = \"0.99998\", step = \"0.000005\", count = 21 }\n",
         Family {
             kind: Kind::Hotine,
             lat: Axis {
@@ -95,7 +113,14 @@ const WORKED: [(&[u8], Family); 4] = [
         },
     ),
     (
-        b"[[family]]\nkind = \"lambert2\"\nlat = { from = \"39.5\", step = \"0.05\", count = 11 }\nlat2 = { from = \"40.5\", step = \"0.05\", count = 11 }\nlon = \"-105.2\"\norigin = \"39\"\neasting = \"500000\"\n",
+        b"\
+            [[family]]\n\
+            kind = \"lambert2\"\n\
+            lat = { from = \"39.5\", step = \"0.05\", count = 11 }\n\
+            lat2 = { from = \"40.5\", step = \"0.05\", count = 11 }\n\
+            lon = \"-105.2\"\n\
+            origin = \"39\"\n\
+            easting = \"500000\"\n",
         Family {
             kind: Kind::Lambert2,
             lat: Axis {
@@ -243,7 +268,9 @@ const REFUSED: [(&[u8], GridFault); 16] = [
         },
     ),
     (
-        b"family = [{ kind = 'lambert', lat = '40', lon = '-105', k0 = '1' }, { kind = 'tm', Lat = '0' }]\n",
+        b"\
+            family = [{ kind = 'lambert', lat = '40', lon = '-105', k0 = '1' }, \
+            { kind = 'tm', Lat = '0' }]\n",
         GridFault::UnknownKey {
             family: 2,
             table: Key::Family,
@@ -492,22 +519,38 @@ fn first_faults_of_quantities(rt: HostRuntime) -> Result<(), Fail> {
 
 /// Families at a limit that are read.
 const FIT: [&[u8]; 6] = [
-    b"kind = 'tm', lat = '-80.0000000000004', lon = { from = '359', step = '1', count = 2 }, k0 = '2.0000000000000004'",
+    b"\
+        kind = 'tm', lat = '-80.0000000000004', lon = { from = '359', step = '1', count = 2 }, \
+        k0 = '2.0000000000000004'",
     b"kind = 'tm', lat = '0.5', lon = '-180', k0 = { from = '0.5', step = '20', count = 1 }",
-    b"kind = 'lambert', lat = '-0.9999999999995', lon = '360', k0 = { from = '0.5', step = '1e-15', count = 100000 }",
-    b"kind = 'lambert', lat = { from = '-2', step = '0.5', count = 3 }, lon = '0', k0 = '1', easting = '1e8', northing = '-1e8'",
-    b"kind = 'lambert2', lat = '-40', lat2 = { from = '1', step = '1', count = 80 }, lon = '0', origin = '0'",
-    b"kind = 'hotine', lat = { from = '40', step = '0.01', count = 1000 }, lon = { from = '-105', step = '0.01', count = 1000 }, azimuth = { from = '-85', step = '0.1', count = 1000 }, k0 = { from = '0.9995', step = '0.000001', count = 1000 }",
+    b"\
+        kind = 'lambert', lat = '-0.9999999999995', lon = '360', \
+        k0 = { from = '0.5', step = '1e-15', count = 100000 }",
+    b"\
+        kind = 'lambert', lat = { from = '-2', step = '0.5', count = 3 }, lon = '0', k0 = '1', \
+        easting = '1e8', northing = '-1e8'",
+    b"\
+        kind = 'lambert2', lat = '-40', lat2 = { from = '1', step = '1', count = 80 }, lon = '0', \
+        origin = '0'",
+    b"\
+        kind = 'hotine', lat = { from = '40', step = '0.01', count = 1000 }, \
+        lon = { from = '-105', step = '0.01', count = 1000 }, \
+        azimuth = { from = '-85', step = '0.1', count = 1000 }, \
+        k0 = { from = '0.9995', step = '0.000001', count = 1000 }",
 ];
 
 /// Families past a limit that only all quantities together pass.
 const PAST: [(&[u8], GridFault); 3] = [
     (
-        b"kind = 'lambert2', lat = '-40', lat2 = { from = '-1', step = '2', count = 2 }, lon = '0', origin = '0'",
+        b"\
+            kind = 'lambert2', lat = '-40', lat2 = { from = '-1', step = '2', count = 2 }, \
+            lon = '0', origin = '0'",
         GridFault::CrossesEquator { family: 1 },
     ),
     (
-        b"kind = 'hotine', lat = { from = '-1', step = '1', count = 3 }, lon = '0', azimuth = '0', k0 = '1', easting = 1",
+        b"\
+            kind = 'hotine', lat = { from = '-1', step = '1', count = 3 }, lon = '0', \
+            azimuth = '0', k0 = '1', easting = 1",
         GridFault::BadValue {
             family: 1,
             key: Key::Easting,
@@ -515,7 +558,11 @@ const PAST: [(&[u8], GridFault); 3] = [
         },
     ),
     (
-        b"kind = 'hotine', lat = { from = '40', step = '0.01', count = 1000 }, lon = { from = '-105', step = '0.01', count = 1001 }, azimuth = { from = '-85', step = '0.1', count = 1000 }, k0 = { from = '0.9995', step = '0.000001', count = 1000 }",
+        b"\
+            kind = 'hotine', lat = { from = '40', step = '0.01', count = 1000 }, \
+            lon = { from = '-105', step = '0.01', count = 1001 }, \
+            azimuth = { from = '-85', step = '0.1', count = 1000 }, \
+            k0 = { from = '0.9995', step = '0.000001', count = 1000 }",
         GridFault::TooManyDesigns { family: 1 },
     ),
 ];

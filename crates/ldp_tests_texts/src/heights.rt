@@ -38,7 +38,9 @@ const REFUSED: [(&[u8], HeightFault); 19] = [
         HeightFault::OutOfRange(51),
     ),
     (
-        b"ncols 1 nrows 1 xllcenter 0 yllcenter 0 cellsize 1 00000000000000000000000000000000000000000000000000000000000000000",
+        b"\
+            ncols 1 nrows 1 xllcenter 0 yllcenter 0 cellsize 1 \
+            00000000000000000000000000000000000000000000000000000000000000000",
         HeightFault::BadNumber(51),
     ),
 ];
@@ -54,11 +56,17 @@ fn first_faults(rt: HostRuntime) -> Result<(), Fail> {
 /// Heights of one row of four places, in millimetres.
 const ROWS: [(&[u8], [Option<i32>; 4]); 4] = [
     (
-        b"ncols 4 nrows 1 xllcenter 0 yllcenter 0 cellsize 1 NODATA_value -3.4028234663852886e+38 1.2344999999999999307 1e1 0.0005 -0.0005",
+        b"\
+            ncols 4 nrows 1 xllcenter 0 yllcenter 0 cellsize 1 \
+            NODATA_value -3.4028234663852886e+38 \
+            1.2344999999999999307 1e1 0.0005 -0.0005",
         [Some(1234), Some(10_000), Some(1), Some(-1)],
     ),
     (
-        b"ncols 4 nrows 1 xllcenter 0 yllcenter 0 cellsize 1 NODATA_value -3.4028234663852886e+38 -3.4028234663852886e+38 -9999 100000 .5",
+        b"\
+            ncols 4 nrows 1 xllcenter 0 yllcenter 0 cellsize 1 \
+            NODATA_value -3.4028234663852886e+38 \
+            -3.4028234663852886e+38 -9999 100000 .5",
         [None, Some(-9_999_000), Some(100_000_000), Some(500)],
     ),
     (
@@ -92,8 +100,14 @@ const PLACES: [(u32, u32, Option<i32>, i128, i128); 3] = [
 
 #[test]
 fn centres(rt: HostRuntime) -> Result<(), Fail> {
-    let text =
-        b"\xef\xbb\xbfNODATA_VALUE nan\r\nCellSize 3e-12\r\nYLLCORNER 10\r\nXllCenter -105.25\r\nNROWS 2\r\nnCols 3\r\n 1 NaN\t3 \r\n4 5 6\r\n";
+    let text = b"\
+        \xef\xbb\xbfNODATA_VALUE nan\r\n\
+        CellSize 3e-12\r\n\
+        YLLCORNER 10\r\n\
+        XllCenter -105.25\r\n\
+        NROWS 2\r\n\
+        nCols 3\r\n 1 NaN\t3 \r\n\
+        4 5 6\r\n";
     let grid = read_heights(rt.alloc(), text)?;
     assert_eq!(rt; (grid.rows(), grid.cols()), (2, 3));
     for (row, column, height, x, y) in PLACES {

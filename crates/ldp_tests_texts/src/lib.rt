@@ -1,4 +1,5 @@
-//! Tests of the crates below, over their public calls alone, a file for each crate: what is read and written.
+//! Tests of the crates below, over their public calls alone, a file for each crate: what is read and
+//! written.
 //! A crate with tests of its own would be proved twice.
 #![tactic(auto)]
 
