@@ -72,5 +72,6 @@ best_have_texts p list present x j h v e c =
 pub best_are_read_back : BestAreReadBack
 best_are_read_back p list present x j h v e c =
     let is : IsJob j = best_have_texts p list present x j h v e c in
-    let long : length j.forest ≡ needed p + length p.families = ap length c.forest ∙ forest_length p h in
+    let long : length j.forest ≡ needed p + length p.families =
+    ap length c.forest ∙ forest_length p h in
     (read_again j is, omega (arith, texts_short j is, long, h.few_nodes, h.grids.few))

@@ -1,6 +1,9 @@
 -- Decimal digits: tests of them, and the number that they stand for.
-use Rattle.std.proofs.Common.{◌≡◌, inl, inr, get_or, ℕ, zero, suc, min, ◌+◌, ◌-◌, ◌*◌, ◌^◌, ◌<◌, ◌≤◌, ◌&&◌, Bool, true, false, cond, List, [], ◌∷◌, ◌++◌, length, take, drop, refl, ap, sym, ◌∙◌, arith}
-use Rattle.std.proofs.Math.Nat.{pow-suc, mul-le-mul_right, le-mul_of_pos_right, one-le-pow, pow-le-pow_right}
+use Rattle.std.proofs.Common.{◌≡◌, inl, inr, get_or, ℕ, zero, suc, min, ◌+◌, ◌-◌, ◌*◌, ◌^◌, ◌<◌}
+use Rattle.std.proofs.Common.{◌≤◌, ◌&&◌, Bool, true, false, cond, List, [], ◌∷◌, ◌++◌, length, take}
+use Rattle.std.proofs.Common.{drop, refl, ap, sym, ◌∙◌, arith}
+use Rattle.std.proofs.Math.Nat.{pow-suc, mul-le-mul_right, le-mul_of_pos_right, one-le-pow}
+use Rattle.std.proofs.Math.Nat.{pow-le-pow_right}
 use Rattle.std.proofs.Math.Seq.{drop-cons, take-append-add, drop-append-add}
 use Rattle.std.proofs.lemmas.Bool.{cases_lt}
 use Rattle.std.proofs.lemmas.List.{take-append-le, take_all, append-nil}
@@ -12,8 +15,12 @@ use Rattle.ldp_decimal.specs.Grammar.{AreDigits, value_after}
 digit_range : (b : ℕ) → is_ascii_digit b ≡ true → (48 ≤ b) × (b ≤ 57)
 digit_range b h = grind (arith, nat_tests)
 
-front_step : (b : ℕ) (bs : List ℕ) (t : Bool) → is_ascii_digit b ≡ t → AreDigits (take (prefix_len is_ascii_digit bs) bs) → AreDigits (take (cond t (1 + prefix_len is_ascii_digit bs) 0) (b ∷ bs))
-front_step b bs true h more = let e : 1 + prefix_len is_ascii_digit bs ≡ suc (prefix_len is_ascii_digit bs) = omega arith in rw e (digit_range b h, more)
+front_step : (b : ℕ) (bs : List ℕ) (t : Bool) → is_ascii_digit b ≡ t
+    → AreDigits (take (prefix_len is_ascii_digit bs) bs)
+    → AreDigits (take (cond t (1 + prefix_len is_ascii_digit bs) 0) (b ∷ bs))
+front_step b bs true h more =
+    let e : 1 + prefix_len is_ascii_digit bs ≡ suc (prefix_len is_ascii_digit bs) = omega arith in
+    rw e (digit_range b h, more)
 front_step b bs false h more = tt
 
 -- the digits in front of a list are digits
@@ -37,9 +44,13 @@ all_digits (b ∷ bs) h = (digit_range b (and_left _ _ h), all_digits bs (and_ri
 -- further digits make a number no smaller
 pub value_grows : (n : ℕ) (ds : List ℕ) → n ≤ value_after n ds
 value_grows n [] = omega arith
-value_grows n (d ∷ ds) = let more : n * 10 + (d - 48) ≤ value_after (n * 10 + (d - 48)) ds = value_grows (n * 10 + (d - 48)) ds in omega arith
+value_grows n (d ∷ ds) =
+    let more : n * 10 + (d - 48) ≤ value_after (n * 10 + (d - 48)) ds =
+    value_grows (n * 10 + (d - 48)) ds in
+    omega arith
 
-pub value_append : (n : ℕ) (ds es : List ℕ) → value_after n (ds ++ es) ≡ value_after (value_after n ds) es
+pub value_append : (n : ℕ) (ds es : List ℕ)
+    → value_after n (ds ++ es) ≡ value_after (value_after n ds) es
 value_append n [] es = refl
 value_append n (d ∷ ds) es = value_append (n * 10 + (d - 48)) ds es
 
@@ -47,19 +58,25 @@ value_append n (d ∷ ds) es = value_append (n * 10 + (d - 48)) ds es
 pub value_split : (n : ℕ) (ds : List ℕ) → value_after n ds ≡ n * 10 ^ length ds + value_after 0 ds
 value_split n [] = omega arith
 value_split n (d ∷ ds) =
-    let one : value_after (n * 10 + (d - 48)) ds ≡ (n * 10 + (d - 48)) * 10 ^ length ds + value_after 0 ds = value_split (n * 10 + (d - 48)) ds in
-    let two : value_after (0 * 10 + (d - 48)) ds ≡ (0 * 10 + (d - 48)) * 10 ^ length ds + value_after 0 ds = value_split (0 * 10 + (d - 48)) ds in
-    let power : n * 10 ^ suc (length ds) ≡ n * (10 ^ length ds * 10) = ap (λ p. n * p) (pow-suc 10 (length ds)) in
-    let goal : (n * 10 + (d - 48)) * 10 ^ length ds + value_after 0 ds ≡ n * 10 ^ suc (length ds) + value_after (0 * 10 + (d - 48)) ds = omega (arith, one, two, power) in
+    let one : value_after (n * 10 + (d - 48)) ds ≡ (n * 10 + (d - 48)) * 10 ^ length ds
+    + value_after 0 ds = value_split (n * 10 + (d - 48)) ds in
+    let two : value_after (0 * 10 + (d - 48)) ds ≡ (0 * 10 + (d - 48)) * 10 ^ length ds
+    + value_after 0 ds = value_split (0 * 10 + (d - 48)) ds in
+    let power : n * 10 ^ suc (length ds) ≡ n * (10 ^ length ds * 10) =
+    ap (λ p. n * p) (pow-suc 10 (length ds)) in
+    let goal : (n * 10 + (d - 48)) * 10 ^ length ds + value_after 0 ds ≡ n * 10 ^ suc (length ds)
+    + value_after (0 * 10 + (d - 48)) ds = omega (arith, one, two, power) in
     one ∙ goal
 
 pub value_bound : (ds : List ℕ) → AreDigits ds → value_after 0 ds < 10 ^ length ds
 value_bound [] h = omega arith
 value_bound (d ∷ ds) h =
-    let two : value_after (0 * 10 + (d - 48)) ds ≡ (0 * 10 + (d - 48)) * 10 ^ length ds + value_after 0 ds = value_split (0 * 10 + (d - 48)) ds in
+    let two : value_after (0 * 10 + (d - 48)) ds ≡ (0 * 10 + (d - 48)) * 10 ^ length ds
+    + value_after 0 ds = value_split (0 * 10 + (d - 48)) ds in
     let power : 10 ^ suc (length ds) ≡ 10 ^ length ds * 10 = pow-suc 10 (length ds) in
     let more : value_after 0 ds < 10 ^ length ds = value_bound ds h.1 in
-    let small : (d - 48) * 10 ^ length ds ≤ 9 * 10 ^ length ds = mul-le-mul_right (10 ^ length ds) (omega arith) in
+    let small : (d - 48) * 10 ^ length ds ≤ 9 * 10 ^ length ds =
+    mul-le-mul_right (10 ^ length ds) (omega arith) in
     omega arith
 
 pub digits_take : (n : ℕ) (ds : List ℕ) → AreDigits ds → AreDigits (take n ds)
@@ -76,15 +93,19 @@ pub digits_append : (ds es : List ℕ) → AreDigits ds → AreDigits es → Are
 digits_append [] es h k = k
 digits_append (d ∷ ds) es h k = (h.0, digits_append ds es h.1 k)
 
-front_split : (count : ℕ) (ws fs : List ℕ) (part : ℕ) → part ≡ min count (length ws) → take count (ws ++ fs) ≡ take part ws ++ take (count - part) fs
+front_split : (count : ℕ) (ws fs : List ℕ) (part : ℕ) → part ≡ min count (length ws)
+    → take count (ws ++ fs) ≡ take part ws ++ take (count - part) fs
 front_split count ws fs part e = elim (cases_lt (length ws) count) [
   | inl long ↦
       let all : part ≡ length ws = omega arith in
       let left : count ≡ length ws + (count - length ws) = omega arith in
-      let whole : take count (ws ++ fs) ≡ take (length ws + (count - length ws)) (ws ++ fs) = ap (λ k. take k (ws ++ fs)) left in
-      let cut : take (length ws + (count - length ws)) (ws ++ fs) ≡ ws ++ take (count - length ws) fs = take-append-add ws fs (count - length ws) in
+      let whole : take count (ws ++ fs) ≡ take (length ws + (count - length ws)) (ws ++ fs) =
+      ap (λ k. take k (ws ++ fs)) left in
+      let cut : take (length ws + (count - length ws)) (ws ++ fs) ≡ ws ++ take (count - length ws)
+      fs = take-append-add ws fs (count - length ws) in
       let front : take part ws ≡ ws = take_all part ws (omega arith) in
-      let rest : take (count - part) fs ≡ take (count - length ws) fs = ap (λ k. take (count - k) fs) all in
+      let rest : take (count - part) fs ≡ take (count - length ws) fs =
+      ap (λ k. take (count - k) fs) all in
       cc
   | inr short ↦
       let all : part ≡ count = omega arith in
@@ -97,17 +118,24 @@ front_split count ws fs part e = elim (cases_lt (length ws) count) [
 ]
 
 -- the number of the first digits of two lists
-pub front_value : (count : ℕ) (ws fs : List ℕ) (part : ℕ) → part ≡ min count (length ws) → value_after 0 (take count (ws ++ fs)) ≡ value_after (value_after 0 (take part ws)) (take (count - part) fs)
-front_value count ws fs part e = ap (λ ds. value_after 0 ds) (front_split count ws fs part e) ∙ value_append 0 (take part ws) (take (count - part) fs)
+pub front_value : (count : ℕ) (ws fs : List ℕ) (part : ℕ) → part ≡ min count (length ws)
+    → value_after 0 (take count (ws ++ fs)) ≡ value_after (value_after 0 (take part ws))
+    (take (count - part) fs)
+front_value count ws fs part e = ap (λ ds. value_after 0 ds) (front_split count ws fs part e)
+    ∙ value_append 0 (take part ws) (take (count - part) fs)
 
 -- a digit more takes the number over the limit
-pub step_over : (n : ℕ) (ds : List ℕ) (i limit total : ℕ) → i < length ds → value_after n (drop i ds) ≡ total → limit < n * 10 + (get_or ds i 0 - 48) → limit < total
+pub step_over : (n : ℕ) (ds : List ℕ) (i limit total : ℕ) → i < length ds
+    → value_after n (drop i ds) ≡ total → limit < n * 10 + (get_or ds i 0 - 48) → limit < total
 step_over n ds i limit total h e over =
-    let more : n * 10 + (get_or ds i 0 - 48) ≤ value_after (n * 10 + (get_or ds i 0 - 48)) (drop (suc i) ds) = value_grows (n * 10 + (get_or ds i 0 - 48)) (drop (suc i) ds) in
-    let same : value_after n (get_or ds i 0 ∷ drop (suc i) ds) ≡ total = ap (λ es. value_after n es) (sym (drop-cons ds i 0 h)) ∙ e in
+    let more : n * 10 + (get_or ds i 0 - 48) ≤ value_after (n * 10 + (get_or ds i 0 - 48))
+    (drop (suc i) ds) = value_grows (n * 10 + (get_or ds i 0 - 48)) (drop (suc i) ds) in
+    let same : value_after n (get_or ds i 0 ∷ drop (suc i) ds) ≡ total =
+    ap (λ es. value_after n es) (sym (drop-cons ds i 0 h)) ∙ e in
     omega arith
 
-pub drop_behind : (index : ℕ) (ws fs : List ℕ) → length ws ≤ index → drop index (ws ++ fs) ≡ drop (index - length ws) fs
+pub drop_behind : (index : ℕ) (ws fs : List ℕ) → length ws ≤ index
+    → drop index (ws ++ fs) ≡ drop (index - length ws) fs
 drop_behind index ws fs h =
     let left : index ≡ length ws + (index - length ws) = omega arith in
     ap (λ k. drop k (ws ++ fs)) left ∙ drop-append-add ws fs (index - length ws)

@@ -16,8 +16,10 @@ pub fn numbers_are_spelled()
 
 /// A written number is read back.
 pub fn written_is_read()
-    ensures decimal { (places limit : ℕ) (z : ℤ) → places ≤ 15 → unsigned_abs z ≤ 10000000000000000000
-        → unsigned_abs z ≤ limit → decimal_of places limit (decimal_text places z) ≡ Ok z }
-    ensures trimmed { (places limit : ℕ) (z : ℤ) → places ≤ 15 → unsigned_abs z ≤ 10000000000000000000
-        → unsigned_abs z ≤ limit → decimal_of places limit (trimmed_text places z) ≡ Ok z }
+    ensures decimal { (places limit : ℕ) (z : ℤ) → places ≤ 15
+        → unsigned_abs z ≤ 10000000000000000000 → unsigned_abs z ≤ limit
+        → decimal_of places limit (decimal_text places z) ≡ Ok z }
+    ensures trimmed { (places limit : ℕ) (z : ℤ) → places ≤ 15
+        → unsigned_abs z ≤ 10000000000000000000 → unsigned_abs z ≤ limit
+        → decimal_of places limit (trimmed_text places z) ≡ Ok z }
 {}

@@ -103,7 +103,8 @@ fn exponent_of(text: &[u8]) -> Option<(u32, u32)>
 /// The parts of a text that is in the number grammar.
 #[tactic(auto, unfolding(crate::specs::Grammar::parts, crate::specs::Grammar::parts_of, crate::specs::Grammar::with_exponent,))]
 pub fn scan(text: &[u8]) -> Option<Scanned<'_>>
-    ensures value { MatchOption result (parts text.now ≡ None) (λ s. parts text.now ≡ Some (parts_seen s)) }
+    ensures value { MatchOption result (parts text.now ≡ None)
+        (λ s. parts text.now ≡ Some (parts_seen s)) }
     ensures range { IfSome result InRange }
 {
     if text.len() > 64 {

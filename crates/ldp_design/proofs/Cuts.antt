@@ -1,5 +1,6 @@
 -- The parts of a box, and the box without any.
-use Rattle.std.proofs.Common.{◌≡◌, ℕ, suc, ◌+◌, ◌*◌, ◌<◌, ◌≤◌, ◌⊎◌, List, inl, inr, refl, sym, ◌∙◌, ap, subst, arith}
+use Rattle.std.proofs.Common.{◌≡◌, ℕ, suc, ◌+◌, ◌*◌, ◌<◌, ◌≤◌, ◌⊎◌, List, inl, inr, refl, sym, ◌∙◌}
+use Rattle.std.proofs.Common.{ap, subst, arith}
 use Rattle.std.proofs.Math.Nat.{mul-le-mul_left, add-mul, mul-add}
 use Rattle.std.proofs.lemmas.Bool.{cases_lt}
 use Rattle.ldp_design.specs.declared.axis.AxisName.{AxisName}

@@ -13,7 +13,9 @@ use Rattle.ldp_design.proofs.Wholes.{valid_family}
 numbered : (families : List Family) (number : ℕ) (f : Family) → family_of families number ≡ Some f
     → (1 ≤ number) × (number ≤ length families)
 numbered families zero f e = absurd cc
-numbered families (suc k) f e = let within = slice_get_within families k f e in (omega arith, omega (arith, within))
+numbered families (suc k) f e =
+    let within = slice_get_within families k f e in
+    (omega arith, omega (arith, within))
 
 few_values : (f : Family) → IsValid f → (axis : AxisName) → (axis_of axis f).count ≤ 100_000
 few_values f valid axis = (number_axis f axis (has_axes f valid)).few

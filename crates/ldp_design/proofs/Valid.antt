@@ -8,7 +8,8 @@ use Rattle.ldp_design.specs.declared.axis.AxisName.TheVariants.{Lat, Lon, Azimut
 use Rattle.ldp_design.specs.declared.family.Kind.{Kind}
 use Rattle.ldp_design.specs.declared.family.Kind.TheVariants.{Tm, Lambert, Hotine, Lambert2}
 use Rattle.ldp_design.specs.declared.family.Family.{Family}
-use Rattle.ldp_design.specs.Families.{IsAxis, IsLatitudeAxis, IsLongitudeAxis, IsAzimuthAxis, IsScaleAxis, IsOfKind, IsValid, single_axis, value_at}
+use Rattle.ldp_design.specs.Families.{IsAxis, IsLatitudeAxis, IsLongitudeAxis, IsAzimuthAxis}
+use Rattle.ldp_design.specs.Families.{IsScaleAxis, IsOfKind, IsValid, single_axis, value_at}
 use Rattle.ldp_design.specs.Designs.{axis_of, IsValueOn}
 use Rattle.ldp_quantity.specs.Between.{IsBetween}
 use Rattle.ldp_design.proofs.Axes.{value-within}

@@ -1,5 +1,6 @@
 -- Families by number, the whole of a family, and the designs of a box.
-use Rattle.std.proofs.Common.{◌≡◌, ℕ, zero, suc, ◌<◌, ◌≤◌, Bool, false, length, List, Option, Some, None, refl, sym, ◌∙◌, ap, subst, arith}
+use Rattle.std.proofs.Common.{◌≡◌, ℕ, zero, suc, ◌<◌, ◌≤◌, Bool, false, length, List, Option, Some}
+use Rattle.std.proofs.Common.{None, refl, sym, ◌∙◌, ap, subst, arith}
 use Rattle.std.specs.Prelude.{option_map, IsTrue, ◌↔◌}
 use Rattle.std.proofs.lemmas.Option.{slice_get_within, get_or_from_slice_get}
 use Rattle.std.proofs.lemmas.List.Elements.{All-get_or}
@@ -10,7 +11,8 @@ use Rattle.ldp_design.specs.declared.design.Design.{Design}
 use Rattle.ldp_design.specs.declared.design_box.DesignBox.{DesignBox}
 use Rattle.ldp_design.specs.Families.{IsValid, AreGrids, family_of}
 use Rattle.ldp_design.specs.Designs.{axis_of, index_of, IsDesignOf, IsAdmitted}
-use Rattle.ldp_design.specs.Boxes.{span_of, IsIn, IsBoxOf, LiesIn, IsSingle, IsWhole, whole_box, whole_of, first_of, last_of}
+use Rattle.ldp_design.specs.Boxes.{span_of, IsIn, IsBoxOf, LiesIn, IsSingle, IsWhole, whole_box}
+use Rattle.ldp_design.specs.Boxes.{whole_of, first_of, last_of}
 use Rattle.ldp_design.proofs.Valid.{HasAxes, has_axes}
 
 -- a family with a number is valid

@@ -1,5 +1,6 @@
 -- Boxes: the designs of one family whose index lies in the span of each axis.
-use Rattle.std.specs.Prelude.{◌≡◌, ℕ, suc, ◌+◌, ◌-◌, ◌*◌, ◌<◌, ◌≤◌, ◌==◌, ◌&&◌, Bool, List, Option, Some, option_map, All, Any}
+use Rattle.std.specs.Prelude.{◌≡◌, ℕ, suc, ◌+◌, ◌-◌, ◌*◌, ◌<◌, ◌≤◌, ◌==◌, ◌&&◌, Bool, List, Option}
+use Rattle.std.specs.Prelude.{Some, option_map, All, Any}
 use Rattle.ldp_design.specs.declared.axis.AxisName.{AxisName}
 use Rattle.ldp_design.specs.declared.axis.AxisName.TheVariants.{Lat, Lon, Azimuth, Scale}
 use Rattle.ldp_design.specs.declared.family.Family.{Family}

@@ -1,5 +1,6 @@
 -- The families of designs. Ranges and limits are own choices of this project.
-use Rattle.std.specs.Prelude.{◌≡◌, ℕ, zero, suc, ◌-◌, ◌*◌, ◌≤◌, ◌⊎◌, ℤ, pos, neg_ℤ, ◌+ℤ◌, ◌*ℤ◌, ◌≤ℤ◌, ◌<ℤ◌, List, length, All, Option, None, slice_get}
+use Rattle.std.specs.Prelude.{◌≡◌, ℕ, zero, suc, ◌-◌, ◌*◌, ◌≤◌, ◌⊎◌, ℤ, pos, neg_ℤ, ◌+ℤ◌, ◌*ℤ◌}
+use Rattle.std.specs.Prelude.{◌≤ℤ◌, ◌<ℤ◌, List, length, All, Option, None, slice_get}
 use Rattle.ldp_quantity.specs.Between.{IsBetween}
 use Rattle.ldp_quantity.specs.Quantity.{degrees, tenths, IsLatitude}
 use Rattle.ldp_design.specs.declared.axis.Axis.{Axis}

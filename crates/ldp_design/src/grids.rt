@@ -1,4 +1,5 @@
-ghost use Rattle.std.specs.Prelude.{◌≡◌, [], ◌∷◌, ◌++◌, ◌<◌, ◌≤◌, ◌↔◌, length, IsTrue, OnOk, OnErr, Some};
+ghost use Rattle.std.specs.Prelude.{◌≡◌, [], ◌∷◌, ◌++◌, ◌<◌, ◌≤◌, ◌↔◌, length, IsTrue, OnOk, OnErr};
+ghost use Rattle.std.specs.Prelude.{Some};
 ghost use Rattle.ldp_design.specs.Families.{AreGrids, IsValid, family_of};
 ghost use Rattle.ldp_design.specs.Designs.{IsAdmitted, IsDesignOf};
 ghost use Rattle.ldp_design.specs.Boxes.{IsWhole, whole_box, whole_of, whole_span};

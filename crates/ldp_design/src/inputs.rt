@@ -2,7 +2,8 @@ ghost use Rattle.std.specs.Prelude.{◌≡◌, Some};
 ghost use Rattle.ldp_design.specs.Families.{IsValid};
 ghost use Rattle.ldp_design.specs.Designs.{IsAdmitted, IsDesignOf};
 ghost use Rattle.ldp_design.specs.Boxes.{LiesIn, first_of, last_of};
-ghost use Rattle.ldp_design.specs.Inputs.{inputs_at, design_inputs, box_inputs, AreNumbers, HaveBetween};
+ghost use Rattle.ldp_design.specs.Inputs.{inputs_at, design_inputs, box_inputs, AreNumbers};
+ghost use Rattle.ldp_design.specs.Inputs.{HaveBetween};
 
 use crate::axis::{angle_at, value_at};
 use crate::design::Design;

@@ -1,6 +1,7 @@
 //! The laws of designs and boxes, for all of them at once.
 ghost use Rattle.ldp_design.specs.Shapes.{ShapesAreForests};
-ghost use Rattle.ldp_design.specs.Laws.{WholesHold, BoxesAreAdmitted, SinglesHaveOne, CutsPart, SplitsCut, SinglesEnd, InputsLieBetween};
+ghost use Rattle.ldp_design.specs.Laws.{WholesHold, BoxesAreAdmitted, SinglesHaveOne, CutsPart};
+ghost use Rattle.ldp_design.specs.Laws.{SplitsCut, SinglesEnd, InputsLieBetween};
 ghost use Rattle.ldp_design.specs.Laws.{FamiliesAreInRange};
 
 /// The whole of a family lies in it and has all its admissible designs.

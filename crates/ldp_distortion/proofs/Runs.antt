@@ -1,5 +1,6 @@
 -- Runs of lists over plain carriers, as values over numbers.
-use Rattle.std.proofs.Common.{◌≡◌, ℕ, ◌+◌, ◌<◌, Bool, true, false, ℤ, List, [], ◌∷◌, ◌++◌, map, length, take, get_or, refl, sym, ap, ◌∙◌}
+use Rattle.std.proofs.Common.{◌≡◌, ℕ, ◌+◌, ◌<◌, Bool, true, false, ℤ, List, [], ◌∷◌, ◌++◌, map}
+use Rattle.std.proofs.Common.{length, take, get_or, refl, sym, ap, ◌∙◌}
 use Rattle.std.proofs.lemmas.List.{map_more, append_assoc}
 use Rattle.std.proofs.lemmas.List.Elements.{All-nil, All-cons}
 use Rattle.std.proofs.lemmas.Option.{slice_get-map}
@@ -35,7 +36,8 @@ run_numbers list inputs defined results h =
     plain_told list (numbers inputs) (if defined then Some (numbers results) else None)
     (ap (value_in (written 0) list) (sym (meant inputs)) ∙ h ∙ found_by defined results)
 
-pub first_meant : (o : Option (List ℤ)) → first_result (option_map (map plain_out) o) ≡ option_map plain_out (first_result o)
+pub first_meant : (o : Option (List ℤ)) → first_result (option_map (map plain_out) o)
+    ≡ option_map plain_out (first_result o)
 first_meant None = refl
 first_meant (Some ns) = slice_get-map plain_out ns 0
 
@@ -43,7 +45,8 @@ pub back_out : (o : Option ℤ) → option_and_then plain_in (option_map plain_o
 back_out None = refl
 back_out (Some n) = refl
 
-pub first_number : (o : Option Fix) → option_and_then plain_in (option_map (λ one. plain_out one.n) o) ≡ option_map (λ one. one.n) o
+pub first_number : (o : Option Fix)
+    → option_and_then plain_in (option_map (λ one. plain_out one.n) o) ≡ option_map (λ one. one.n) o
 first_number None = refl
 first_number (Some x) = refl
 
@@ -53,10 +56,13 @@ numbers_all [] = All-nil IsNumber
 numbers_all (x ∷ xs) = All-cons IsNumber x.n (numbers xs) x.in_range (numbers_all xs)
 
 -- the number of one more carrier is pushed
-pub push_more : (items was now : List ℤ) (values : List Fix) (i : ℕ) (x : Fix) → i < length values → x ≡ get_or values i x
-    → now ≡ was ++ x.n ∷ [] → was ≡ items ++ numbers (take i values) → now ≡ items ++ numbers (take (i + 1) values)
+pub push_more : (items was now : List ℤ) (values : List Fix) (i : ℕ) (x : Fix) → i < length values
+    → x ≡ get_or values i x
+    → now ≡ was ++ x.n ∷ [] → was ≡ items ++ numbers (take i values)
+    → now ≡ items ++ numbers (take (i + 1) values)
 push_more items was now values i x within read pushed so_far =
-    let more : numbers (take (i + 1) values) ≡ numbers (take i values) ++ (get_or values i x).n ∷ [] =
+    let more : numbers (take (i + 1) values) ≡ numbers (take i values) ++ (get_or values i x).n
+    ∷ [] =
     map_more (λ (one : Fix). one.n) values i x within in
     pushed
     ∙ ap (λ (ns : List ℤ). ns ++ x.n ∷ []) so_far
@@ -66,12 +72,15 @@ push_more items was now values i x within read pushed so_far =
 
 -- what a run of the steps says of the value of their list
 pub run_given : (list : StepList) (inputs run results : List Fix) → HasResults list.steps inputs run
-    → at_places (map (λ (one : Fix). plain_out one.n) run) list.outs ≡ Some (map (λ (one : Fix). plain_out one.n) results)
+    → at_places (map (λ (one : Fix). plain_out one.n) run) list.outs
+    ≡ Some (map (λ (one : Fix). plain_out one.n) results)
     → value list (numbers inputs) ≡ Some (numbers results)
 run_given list inputs run results h k =
-    run_numbers list inputs true results (ap (option_and_then (λ found. at_places found list.outs)) h ∙ k)
+    run_numbers list inputs true results
+    (ap (option_and_then (λ found. at_places found list.outs)) h ∙ k)
 
-pub run_undefined : (list : StepList) (inputs run : List Fix) (steps : List Step) (defined : Bool) → steps ≡ list.steps
+pub run_undefined : (list : StepList) (inputs run : List Fix) (steps : List Step) (defined : Bool)
+    → steps ≡ list.steps
     → results_of (written 0) (map (λ (one : Fix). plain_out one.n) inputs) steps
     ≡ (if defined then Some (map (λ (one : Fix). plain_out one.n) run) else None)
     → OnFalse defined (value list (numbers inputs) ≡ None)

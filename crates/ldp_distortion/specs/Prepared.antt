@@ -1,5 +1,6 @@
 -- Cells prepared for the lists of a projection: the cell list is run once at each cell.
-use Rattle.std.specs.Prelude.{◌≡◌, ◌≤◌, ◌+◌, ℕ, ℤ, List, length, map, take, slice_get, Option, Some, option_and_then}
+use Rattle.std.specs.Prelude.{◌≡◌, ◌≤◌, ◌+◌, ℕ, ℤ, List, length, map, take, slice_get, Option, Some}
+use Rattle.std.specs.Prelude.{option_and_then}
 use Rattle.ldp_num.specs.Steps.{most_steps}
 use Rattle.ldp_num.specs.Written.{Ops}
 use Rattle.ldp_num.specs.declared.fix.Fix.{Fix}

@@ -1,6 +1,7 @@
 -- A flat table: so many numbers a row, one row after another, and for each row whether it is
 -- defined.
-use Rattle.std.specs.Prelude.{◌≡◌, ◌*◌, ◌≤◌, ℕ, Bool, ℤ, List, [], ◌∷◌, length, take, drop, All, Option, Some, None, if◌then◌else◌}
+use Rattle.std.specs.Prelude.{◌≡◌, ◌*◌, ◌≤◌, ℕ, Bool, ℤ, List, [], ◌∷◌, length, take, drop, All}
+use Rattle.std.specs.Prelude.{Option, Some, None, if◌then◌else◌}
 use Rattle.std.specs.Option.{ForSome}
 use Rattle.ldp_num.specs.Number.{IsNumber}
 

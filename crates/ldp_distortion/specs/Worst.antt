@@ -1,5 +1,6 @@
 -- The worst of a design over cells: the largest absolute distortion. Own choice of this project.
-use Rattle.std.specs.Prelude.{ℕ, max, ◌<◌, ℤ, pos, nat_abs, List, [], ◌∷◌, ◌==◌, All, Option, Some, None, IsSome, position, filter_map, option_map}
+use Rattle.std.specs.Prelude.{ℕ, max, ◌<◌, ℤ, pos, nat_abs, List, [], ◌∷◌, ◌==◌, All, Option, Some}
+use Rattle.std.specs.Prelude.{None, IsSome, position, filter_map, option_map}
 use Rattle.std.specs.Option.{is_none}
 use Rattle.std.specs.List.{position_or_len}
 use Rattle.ldp_num.specs.Number.{IsNumber}

@@ -1,5 +1,6 @@
 ghost use Rattle.std.specs.Prelude.{◌≡◌};
-ghost use Rattle.ldp_distortion.specs.Inputs.{AreNumbers, design_inputs as inputs_of_design, cell_inputs as inputs_of_cell, numbers};
+ghost use Rattle.ldp_distortion.specs.Inputs.{AreNumbers, design_inputs as inputs_of_design};
+ghost use Rattle.ldp_distortion.specs.Inputs.{cell_inputs as inputs_of_cell, numbers};
 ghost use Rattle.ldp_cells.specs.Range.{IsInRange};
 
 use ldp_cells::Cell;

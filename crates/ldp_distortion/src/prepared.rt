@@ -1,4 +1,5 @@
-ghost use Rattle.std.specs.Prelude.{◌≡◌, ◌↔◌, ◌<◌, ◌+◌, All, Some, None, IfOk, IfSome, length, map, take, option_map, slice_get, if◌then◌else◌};
+ghost use Rattle.std.specs.Prelude.{◌≡◌, ◌↔◌, ◌<◌, ◌+◌, All, Some, None, IfOk, IfSome, length, map};
+ghost use Rattle.std.specs.Prelude.{take, option_map, slice_get, if◌then◌else◌};
 ghost use Rattle.ldp_num.specs.Number.{IsNumber};
 ghost use Rattle.ldp_num.specs.Steps.{most_steps};
 ghost use Rattle.ldp_num.specs.StepList.{value};
@@ -6,7 +7,8 @@ ghost use Rattle.ldp_num.specs.Written.{written};
 ghost use Rattle.ldp_distortion.specs.Inputs.{AreNumbers, design_inputs as inputs_of_design};
 ghost use Rattle.ldp_distortion.specs.Distortion.{distortions};
 ghost use Rattle.ldp_distortion.specs.Prepared.{FitTogether, HasRoom, HasRows, prepared};
-ghost use Rattle.ldp_distortion.specs.Prepared.{first_numbers, joined_at, distortions_from, distortions_of};
+ghost use Rattle.ldp_distortion.specs.Prepared.{first_numbers, joined_at, distortions_from};
+ghost use Rattle.ldp_distortion.specs.Prepared.{distortions_of};
 ghost use Rattle.ldp_distortion.specs.Worst.{worst_of, IsUsable, IsValue, HasNumber, IsWithin};
 
 use crate::Memory;
@@ -155,7 +157,8 @@ impl Prepared {
             ≡ length self.now.lists.design.outs + length self.now.lists.cell.outs }
         requires cell { cell < length self.now.results }
         ensures distortion { slice_get
-            (distortions_from self.now (Some (first_numbers self.now inputs.old))) cell ≡ Some result }
+            (distortions_from self.now (Some (first_numbers self.now inputs.old))) cell
+            ≡ Some result }
         ensures number { IfSome result IsNumber }
         ensures kept { take (length self.now.lists.design.outs) inputs.new
             ≡ take (length self.now.lists.design.outs) inputs.old }

@@ -1,4 +1,5 @@
-ghost use Rattle.std.specs.Prelude.{◌≡◌, ◌<◌, ◌++◌, All, Some, IfOk, IfSome, OnOk, length, map, option_map, slice_get};
+ghost use Rattle.std.specs.Prelude.{◌≡◌, ◌<◌, ◌++◌, All, Some, IfOk, IfSome, OnOk, length, map};
+ghost use Rattle.std.specs.Prelude.{option_map, slice_get};
 ghost use Rattle.ldp_num.specs.Number.{IsNumber};
 ghost use Rattle.ldp_distortion.specs.Inputs.{numbers};
 ghost use Rattle.ldp_distortion.specs.Distortion.{cell_results};

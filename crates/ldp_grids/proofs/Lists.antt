@@ -1,5 +1,6 @@
 -- The lists of a document's tables and arrays beside the collections that the code sees.
-use Rattle.std.proofs.Common.{◌≡◌, ℕ, Bool, is_some, List, [], ◌∷◌, map, String, Global, string_bytes, refl, ap, sym, ◌∙◌}
+use Rattle.std.proofs.Common.{◌≡◌, ℕ, Bool, is_some, List, [], ◌∷◌, map, String, Global}
+use Rattle.std.proofs.Common.{string_bytes, refl, ap, sym, ◌∙◌}
 use Rattle.std.specs.List.{list_all}
 use Rattle.std.specs.Map.{keys_of as map_keys}
 use Rattle.std.proofs.lemmas.List.Folds.{list_all-map}

@@ -1,12 +1,14 @@
--- The family of quantities that were read is valid, where its parallels do not cross the equator and
--- its designs are not too many.
-use Rattle.std.proofs.Common.{◌≡◌, ℕ, ◌*◌, ◌^◌, ◌≤◌, ◌⊎◌, inl, inr, Bool, false, ◌&&◌, ◌||◌, ℤ, pos, negsuc, neg_ℤ, unsigned_abs, int_lt, ◌≤ℤ◌, sym, ap, subst, arith}
+-- The family of quantities that were read is valid, where its parallels do not cross the equator
+-- and its designs are not too many.
+use Rattle.std.proofs.Common.{◌≡◌, ℕ, ◌*◌, ◌^◌, ◌≤◌, ◌⊎◌, inl, inr, Bool, false, ◌&&◌, ◌||◌, ℤ, pos}
+use Rattle.std.proofs.Common.{negsuc, neg_ℤ, unsigned_abs, int_lt, ◌≤ℤ◌, sym, ap, subst, arith}
 use Rattle.std.proofs.lemmas.Bool.Decides.{nat_tests}
 use Rattle.std.proofs.lemmas.Int.{ints}
 use Rattle.ldp_design.specs.declared.axis.Axis.{Axis}
 use Rattle.ldp_design.specs.declared.family.Kind.{Kind}
 use Rattle.ldp_design.specs.declared.family.Kind.TheVariants.{Tm, Lambert, Hotine, Lambert2}
-use Rattle.ldp_design.specs.Families.{IsAxis, IsOneValue, IsParallelAxis, IsFalseOrigin, single_axis, last_value}
+use Rattle.ldp_design.specs.Families.{IsAxis, IsOneValue, IsParallelAxis, IsFalseOrigin}
+use Rattle.ldp_design.specs.Families.{single_axis, last_value}
 use Rattle.ldp_quantity.specs.Quantity.{degrees}
 use Rattle.ldp_grids.specs.declared.fault.Key.{Key}
 use Rattle.ldp_grids.specs.declared.fault.Key.TheVariants as keys
@@ -14,7 +16,8 @@ use Rattle.ldp_grids.specs.declared.quantities.Quantities.{Quantities}
 use Rattle.ldp_grids.specs.declared.range.Range.{Range}
 use Rattle.ldp_grids.specs.Ranges.{range_of}
 use Rattle.ldp_grids.specs.Families.{crosses}
-use Rattle.ldp_grids.specs.Facts.{IsAxisIn, IsValueIn, AreQuantities, IsBounded, IsRead, family_from}
+use Rattle.ldp_grids.specs.Facts.{IsAxisIn, IsValueIn, AreQuantities, IsBounded, IsRead}
+use Rattle.ldp_grids.specs.Facts.{family_from}
 use Rattle.ldp_grids.proofs.Singles.{single_is_axis}
 
 axis_in : (range : Range) (axis : Axis) → IsAxisIn range axis → IsAxis range.low range.high axis

@@ -1,6 +1,7 @@
 -- The axes of a family: one value, or a table that says the first value, the step between values
 -- and how many there are. (Own choice of this project.)
-use Rattle.std.specs.Prelude.{ℕ, Bool, ◌||◌, ℤ, pos, List, Option, Some, None, Result, Ok, Err, if◌then◌else◌, codes, bytes_eq}
+use Rattle.std.specs.Prelude.{ℕ, Bool, ◌||◌, ℤ, pos, List, Option, Some, None, Result, Ok, Err}
+use Rattle.std.specs.Prelude.{if◌then◌else◌, codes, bytes_eq}
 use Rattle.std.specs.List.{list_all}
 use Rattle.toml.specs.Data.{Data, Members, get_member, as_table}
 use Rattle.ldp_quantity.specs.Quantity.{tenths}

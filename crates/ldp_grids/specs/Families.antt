@@ -1,5 +1,6 @@
 -- A family of designs as a TOML table, and the order of its faults. (Own choice of this project.)
-use Rattle.std.specs.Prelude.{ℕ, Bool, ◌&&◌, ◌||◌, false, nat_le, ◌^◌, pos, int_lt, List, Option, Some, None, Result, Ok, Err, if◌then◌else◌, codes, bytes_eq}
+use Rattle.std.specs.Prelude.{ℕ, Bool, ◌&&◌, ◌||◌, false, nat_le, ◌^◌, pos, int_lt, List, Option}
+use Rattle.std.specs.Prelude.{Some, None, Result, Ok, Err, if◌then◌else◌, codes, bytes_eq}
 use Rattle.std.specs.List.{list_all}
 use Rattle.std.specs.Option.{ok_or}
 use Rattle.toml.specs.Data.{Members, get_member}
@@ -12,7 +13,8 @@ use Rattle.ldp_design.specs.Families.{last_value, design_count}
 use Rattle.ldp_grids.specs.declared.fault.Key.TheVariants as keys
 use Rattle.ldp_grids.specs.declared.fault.Part.TheVariants.{Whole}
 use Rattle.ldp_grids.specs.declared.fault.GridFault.{GridFault}
-use Rattle.ldp_grids.specs.declared.fault.GridFault.TheVariants.{BadValue, UnknownKey, CrossesEquator, TooManyDesigns}
+use Rattle.ldp_grids.specs.declared.fault.GridFault.TheVariants.{BadValue, UnknownKey}
+use Rattle.ldp_grids.specs.declared.fault.GridFault.TheVariants.{CrossesEquator, TooManyDesigns}
 use Rattle.ldp_grids.specs.Columns.{by_kind, is_family_key}
 use Rattle.ldp_grids.specs.Numbers.{needed, text_of}
 use Rattle.ldp_grids.specs.Axes.{quantity_of}

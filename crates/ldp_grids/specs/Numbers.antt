@@ -1,7 +1,8 @@
 -- The numbers of a family: quantities are TOML strings with a decimal number, counts are TOML
 -- integers. A quantity is rounded half away from zero before it is compared. (Own choice of this
 -- project.)
-use Rattle.std.specs.Prelude.{ℕ, ℤ, pos, ◌*ℤ◌, int_le, nat_abs, List, Option, Some, None, Result, Ok, Err, if◌then◌else◌}
+use Rattle.std.specs.Prelude.{ℕ, ℤ, pos, ◌*ℤ◌, int_le, nat_abs, List, Option, Some, None, Result}
+use Rattle.std.specs.Prelude.{Ok, Err, if◌then◌else◌}
 use Rattle.std.specs.Option.{ok_or}
 use Rattle.toml.specs.Data.{Data, as_str, as_integer}
 use Rattle.ldp_decimal.specs.Reading.{decimal_value}
@@ -12,7 +13,8 @@ use Rattle.ldp_grids.specs.declared.fault.Key.{Key}
 use Rattle.ldp_grids.specs.declared.fault.Part.{Part}
 use Rattle.ldp_grids.specs.declared.fault.Part.TheVariants.{Step, Count}
 use Rattle.ldp_grids.specs.declared.fault.GridFault.{GridFault}
-use Rattle.ldp_grids.specs.declared.fault.GridFault.TheVariants.{MissingKey, BadValue, OutOfRange, StepNotPositive}
+use Rattle.ldp_grids.specs.declared.fault.GridFault.TheVariants.{MissingKey, BadValue, OutOfRange}
+use Rattle.ldp_grids.specs.declared.fault.GridFault.TheVariants.{StepNotPositive}
 use Rattle.ldp_grids.specs.Ranges.{range_of, is_in_range}
 
 -- the value of a key that may not be left out

@@ -1,7 +1,9 @@
 -- Reading a text of design grids: a TOML 1.1 document with the one key `family`, an array of 1 to
 -- 16 tables. The first fault is answered: those of the document, then those of each family. (Own
 -- choice of this project.)
-use Rattle.std.specs.Prelude.{ℕ, ◌+◌, ◌-◌, ◌^◌, min, Bool, not, ◌||◌, ◌==◌, nat_le, List, [], ◌∷◌, length, Option, None, is_some, option_and_then, Result, Ok, Err, if◌then◌else◌, codes, bytes_eq}
+use Rattle.std.specs.Prelude.{ℕ, ◌+◌, ◌-◌, ◌^◌, min, Bool, not, ◌||◌, ◌==◌, nat_le, List, [], ◌∷◌}
+use Rattle.std.specs.Prelude.{length, Option, None, is_some, option_and_then, Result, Ok, Err}
+use Rattle.std.specs.Prelude.{if◌then◌else◌, codes, bytes_eq}
 use Rattle.std.specs.List.{list_all}
 use Rattle.std.specs.Option.{ok_or}
 use Rattle.std.specs.Str.{is_utf8}
@@ -12,7 +14,8 @@ use Rattle.ldp_quantity.specs.Results.{◌>>=◌}
 use Rattle.ldp_design.specs.declared.family.Family.{Family}
 use Rattle.ldp_grids.specs.declared.fault.Key.TheVariants as keys
 use Rattle.ldp_grids.specs.declared.fault.GridFault.{GridFault}
-use Rattle.ldp_grids.specs.declared.fault.GridFault.TheVariants.{NotToml, NoFamily, TooManyFamilies, UnknownKey}
+use Rattle.ldp_grids.specs.declared.fault.GridFault.TheVariants.{NotToml, NoFamily, TooManyFamilies}
+use Rattle.ldp_grids.specs.declared.fault.GridFault.TheVariants.{UnknownKey}
 use Rattle.ldp_grids.specs.Families.{family_of}
 use Rattle.ldp_grids.specs.Tables.{keys_of, values_of}
 

@@ -1,7 +1,8 @@
 ghost use Rattle.std.specs.Prelude.{◌≡◌, ◌≤◌, pos, negsuc, ◌≤ℤ◌, ◌*ℤ◌, option_map, IfOk};
 ghost use Rattle.toml.specs.View.{view, table_view};
 ghost use Rattle.ldp_design.specs.Families.{single_axis, last_value};
-ghost use Rattle.ldp_grids.specs.Axes.{spaced_values, spaced_axis, single_of, axis_of, quantity_of, unless_given, ending_in_range};
+ghost use Rattle.ldp_grids.specs.Axes.{spaced_values, spaced_axis, single_of, axis_of, quantity_of};
+ghost use Rattle.ldp_grids.specs.Axes.{unless_given, ending_in_range};
 ghost use Rattle.ldp_grids.specs.Facts.{IsInRange, IsAxisIn, IsValueIn, IsQuantity};
 ghost use Rattle.ldp_grids.specs.Numbers.{needed};
 ghost use Rattle.ldp_grids.specs.Ranges.{range_of};

@@ -2,7 +2,8 @@ ghost use Rattle.std.specs.Prelude.{◌≡◌, ◌*◌, ◌^◌, ◌<◌, IfOk};
 ghost use Rattle.toml.specs.View.{view, table_view};
 ghost use Rattle.ldp_design.specs.Families.{IsValid, design_count};
 ghost use Rattle.ldp_grids.specs.Facts.{IsBounded, IsRead};
-ghost use Rattle.ldp_grids.specs.Families.{kind_named, kind_of, known_quantities, crosses, crosses_equator, within_limits, family_of};
+ghost use Rattle.ldp_grids.specs.Families.{kind_named, kind_of, known_quantities, crosses};
+ghost use Rattle.ldp_grids.specs.Families.{crosses_equator, within_limits, family_of};
 
 use crate::axis::last_value;
 use crate::fault::{GridFault, Key, Part};

@@ -1,9 +1,11 @@
-ghost use Rattle.std.specs.Prelude.{◌≡◌, ◌≢◌, ◌≤◌, length, map, Some, None, is_some, IfOk, IfErr, option_map};
+ghost use Rattle.std.specs.Prelude.{◌≡◌, ◌≢◌, ◌≤◌, length, map, Some, None, is_some, IfOk, IfErr};
+ghost use Rattle.std.specs.Prelude.{option_map};
 ghost use Rattle.std.specs.List.{list_all};
 ghost use Rattle.std.specs.Result.{result_map_both};
 ghost use Rattle.toml.specs.Data.{as_table};
 ghost use Rattle.toml.specs.View.{view, table_view, array_view};
-ghost use Rattle.ldp_grids.specs.Reading.{document_of, are_tables, few_tables, families_at, tables_of, families_from, grids_of};
+ghost use Rattle.ldp_grids.specs.Reading.{document_of, are_tables, few_tables, families_at};
+ghost use Rattle.ldp_grids.specs.Reading.{tables_of, families_from, grids_of};
 
 use crate::family::read_family;
 use crate::fault::{GridFault, Key};

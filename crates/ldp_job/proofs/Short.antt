@@ -1,7 +1,8 @@
 -- How long a text can be. A word weighs its bytes and the separator behind it.
 use Rattle.std.proofs.Common.{◌≡◌, ◌≤◌, ◌+◌, ◌*◌, ◌-◌, ◌^◌, ◌/◌, ◌%◌, ℕ, zero, suc, ℤ, pos, negsuc}
 use Rattle.std.proofs.Common.{List, [], ◌∷◌, ◌++◌, length, map, decimal, codes, arith}
-use Rattle.std.proofs.Common.{lit≤, lit<, Bool, true, false, neg_ℤ, div-add-mod', div-le_self, if◌then◌else◌}
+use Rattle.std.proofs.Common.{lit≤, lit<, Bool, true, false, neg_ℤ, div-add-mod', div-le_self}
+use Rattle.std.proofs.Common.{if◌then◌else◌}
 use Rattle.std.proofs.lemmas.Fmt.{length-decimal-le_wide}
 use Rattle.std.proofs.lemmas.Int.{ints}
 use Rattle.std.proofs.lemmas.List.{length-append, length-replicate}
@@ -127,7 +128,8 @@ padded_below (suc p) n h =
 
 -- the digits of a number before the point, and behind it
 digits_below : (places n : ℕ) → n ≤ limit → length (whole_digits places n) ≤ 20
-digits_below places n h = number_below (n / 10 ^ places) (omega (arith, h, div-le_self n (10 ^ places)))
+digits_below places n h =
+    number_below (n / 10 ^ places) (omega (arith, h, div-le_self n (10 ^ places)))
 
 further_below : (places n : ℕ) → n ≤ limit → length (further_digits places n) ≤ places + 20
 further_below places n h = padded_below places (n % 10 ^ places)

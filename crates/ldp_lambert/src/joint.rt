@@ -9,8 +9,8 @@ use std::alloc::Global;
 /// 1/4, in units of 10^-15: the greatest square of a difference of isometric latitudes.
 const DOMAIN: i128 = ONE / 4;
 
-/// The joint list: the linear distortion, from the results of a design list, n, q1, m1 and the scale
-/// factor, and then those of the cell list.
+/// The joint list: the linear distortion, from the results of a design list, n, q1, m1 and the
+/// scale factor, and then those of the cell list.
 pub fn joint_list(alloc: Global) -> Result<List, Memory>
     ensures exact { IfOk result (λ list. list ≡ joint_list) }
     ensures shape { IfOk result (HasShape 7 1) }

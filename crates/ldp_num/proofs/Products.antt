@@ -9,4 +9,5 @@ number-abs (pos n) h = omega (arith, ints)
 number-abs (negsuc n) h = omega (arith, ints)
 
 pub fits-product : (a b : ℤ) → IsNumber a → IsNumber b → FitsSigned w128 (a *ℤ b)
-fits-product a b h k = fits_signed_mul w128 a b limit limit (number-abs a h) (number-abs b k) (omega arith)
+fits-product a b h k =
+    fits_signed_mul w128 a b limit limit (number-abs a h) (number-abs b k) (omega arith)

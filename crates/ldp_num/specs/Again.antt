@@ -1,8 +1,10 @@
 -- A list that is run again where the first of its inputs stay: which steps may change, and what the
 -- last run left. (Own choice of this project.)
-use Rattle.std.specs.Prelude.{◌≡◌, ◌<◌, ◌↔◌, ℕ, List, length, take, slice_get, slice_index, All, Contains, Some}
+use Rattle.std.specs.Prelude.{◌≡◌, ◌<◌, ◌↔◌, ℕ, List, length, take, slice_get, slice_index, All}
+use Rattle.std.specs.Prelude.{Contains, Some}
 use Rattle.ldp_num.specs.declared.step.Step.{Step}
-use Rattle.ldp_num.specs.declared.step.Step.TheVariants.{Const, Input, Add, Sub, Mul, Div, Sq, Sqrt, Need}
+use Rattle.ldp_num.specs.declared.step.Step.TheVariants.{Const, Input, Add, Sub, Mul, Div, Sq, Sqrt}
+use Rattle.ldp_num.specs.declared.step.Step.TheVariants.{Need}
 use Rattle.ldp_num.specs.Written.{Ops}
 use Rattle.ldp_num.specs.Steps.{results_of}
 
@@ -23,7 +25,7 @@ StepStays kept again (Sqrt a) = Lacks again a
 StepStays kept again (Need a) = Lacks again a
 
 -- the places, in order, of the steps that may change where so many of the first inputs stay: all
--- others stay, and of these none does
+-- others stay, and of these none does (of steps that fit one list alone is so)
 pub record IsAgain (kept : ℕ) (steps : List Step) (again : List ℕ) : Type 0 where
   pub ascending : (i j : ℕ) → i < j → j < length again → slice_index again i < slice_index again j
   pub within : All (λ place. place < length steps) again

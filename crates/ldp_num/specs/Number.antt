@@ -1,6 +1,7 @@
 -- Numbers: a whole n of at most 10^19 in absolute value, which stands for n / 10^15. (Own choice of
 -- this project.)
-use Rattle.std.specs.Prelude.{◌&&◌, ◌^◌, int_le, ℕ, Bool, ℤ, pos, neg_ℤ, ◌≤ℤ◌, Option, Some, None, if◌then◌else◌}
+use Rattle.std.specs.Prelude.{◌&&◌, ◌^◌, int_le, ℕ, Bool, ℤ, pos, neg_ℤ, ◌≤ℤ◌, Option, Some, None}
+use Rattle.std.specs.Prelude.{if◌then◌else◌}
 
 -- the units that make one
 abbrev pub one : ℕ

@@ -1,6 +1,7 @@
 -- The plain operations: fixed-point arithmetic on numbers, rounded down. Each is undefined where
 -- its result is no number or its domain is left. (Own choice of this project.)
-use Rattle.std.specs.Prelude.{ℕ, zero, suc, ◌*◌, ◌/◌, ℤ, pos, negsuc, ◌+ℤ◌, ◌-ℤ◌, ◌*ℤ◌, Option, Some, None}
+use Rattle.std.specs.Prelude.{ℕ, zero, suc, ◌*◌, ◌/◌, ℤ, pos, negsuc, ◌+ℤ◌, ◌-ℤ◌, ◌*ℤ◌, Option}
+use Rattle.std.specs.Prelude.{Some, None}
 use Rattle.ldp_num.specs.Number.{one, number}
 use Rattle.ldp_num.specs.Root.{root}
 

@@ -1,9 +1,11 @@
 -- The range operations. A range is a pair of numbers, low ≤ high, that stands for all numbers
 -- between. (Own choice of this project; interval arithmetic, rounded down at both ends.)
-use Rattle.std.specs.Prelude.{◌≤ℤ◌, int_le, ℤ, pos, List, [], ◌∷◌, Option, Some, None, option_map, option_and_then, if◌then◌else◌}
+use Rattle.std.specs.Prelude.{◌≤ℤ◌, int_le, ℤ, pos, List, [], ◌∷◌, Option, Some, None, option_map}
+use Rattle.std.specs.Prelude.{option_and_then, if◌then◌else◌}
 use Rattle.std.specs.Int.{int_min, int_max}
 use Rattle.ldp_num.specs.Number.{IsNumber}
-use Rattle.ldp_num.specs.Plain.{plain_add, plain_sub, plain_mul, plain_div, plain_sq, plain_sqrt, plain_need}
+use Rattle.ldp_num.specs.Plain.{plain_add, plain_sub, plain_mul, plain_div, plain_sq, plain_sqrt}
+use Rattle.ldp_num.specs.Plain.{plain_need}
 
 pub record IsRange (low high : ℤ) : Type 0 where
   pub low_number : IsNumber low

@@ -1,5 +1,6 @@
 -- A list of steps with the places of its results, and its value.
-use Rattle.std.specs.Prelude.{ℕ, ℤ, List, [], ◌∷◌, slice_get, Option, Some, option_map, option_and_then}
+use Rattle.std.specs.Prelude.{ℕ, ℤ, List, [], ◌∷◌, slice_get, Option, Some, option_map}
+use Rattle.std.specs.Prelude.{option_and_then}
 use Rattle.ldp_num.specs.declared.step.Step.{Step}
 use Rattle.ldp_num.specs.Written.{Ops, number_ops}
 use Rattle.ldp_num.specs.Steps.{results_of}

@@ -1,8 +1,10 @@
 -- A formula is a list of steps: a constant, an input, or one operation on the results of earlier
 -- steps.
-use Rattle.std.specs.Prelude.{◌<◌, ℕ, ◌+◌, List, [], ◌∷◌, ◌++◌, slice_get, Option, Some, option_and_then}
+use Rattle.std.specs.Prelude.{◌<◌, ℕ, ◌+◌, List, [], ◌∷◌, ◌++◌, slice_get, Option, Some}
+use Rattle.std.specs.Prelude.{option_and_then}
 use Rattle.ldp_num.specs.declared.step.Step.{Step}
-use Rattle.ldp_num.specs.declared.step.Step.TheVariants.{Const, Input, Add, Sub, Mul, Div, Sq, Sqrt, Need}
+use Rattle.ldp_num.specs.declared.step.Step.TheVariants.{Const, Input, Add, Sub, Mul, Div, Sq, Sqrt}
+use Rattle.ldp_num.specs.declared.step.Step.TheVariants.{Need}
 use Rattle.ldp_num.specs.Number.{IsNumber}
 use Rattle.ldp_num.specs.Written.{Ops}
 

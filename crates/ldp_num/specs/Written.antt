@@ -2,10 +2,14 @@
 -- carrier 0 is the plain number, a list of one; carrier 1 is the range, a list of its low and its
 -- high end; carrier 3 is the twin, a list of the four ends of its two ranges. Nothing is defined in
 -- carrier 2.
-use Rattle.std.specs.Prelude.{ℕ, zero, suc, ℤ, List, [], ◌∷◌, Option, Some, None, option_map, option_and_then}
-use Rattle.ldp_num.specs.Plain.{plain_add, plain_sub, plain_mul, plain_div, plain_sq, plain_sqrt, plain_need}
-use Rattle.ldp_num.specs.Ranges.{pair_add, pair_sub, pair_mul, pair_div, pair_sq, pair_sqrt, pair_need}
-use Rattle.ldp_num.specs.Twins.{TwinPair, twin_add, twin_sub, twin_mul, twin_div, twin_sq, twin_sqrt, twin_need}
+use Rattle.std.specs.Prelude.{ℕ, zero, suc, ℤ, List, [], ◌∷◌, Option, Some, None, option_map}
+use Rattle.std.specs.Prelude.{option_and_then}
+use Rattle.ldp_num.specs.Plain.{plain_add, plain_sub, plain_mul, plain_div, plain_sq, plain_sqrt}
+use Rattle.ldp_num.specs.Plain.{plain_need}
+use Rattle.ldp_num.specs.Ranges.{pair_add, pair_sub, pair_mul, pair_div, pair_sq, pair_sqrt}
+use Rattle.ldp_num.specs.Ranges.{pair_need}
+use Rattle.ldp_num.specs.Twins.{TwinPair, twin_add, twin_sub, twin_mul, twin_div, twin_sq}
+use Rattle.ldp_num.specs.Twins.{twin_sqrt, twin_need}
 
 -- the operations of a formula over any type of value
 pub record Ops (A : Type 0) : Type 0 where
@@ -104,7 +108,7 @@ twin_in _ = None
 abbrev pub twin_out : TwinPair → List ℤ
 twin_out t = t.0.0 ∷ t.0.1 ∷ t.1.0 ∷ t.1.1 ∷ []
 
--- there is no other carrier: nothing is defined
+-- under a number that names no carrier nothing is defined
 abbrev pub no_ops : Ops (List ℤ)
 no_ops = record {
   constant = λ _. [];

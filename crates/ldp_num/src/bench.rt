@@ -1,4 +1,5 @@
-ghost use Rattle.std.specs.Prelude.{◌≡◌, ◌≤◌, ◌<◌, length, map, take, Some, None, IfOk, if◌then◌else◌, slice_get, [], option_map};
+ghost use Rattle.std.specs.Prelude.{◌≡◌, ◌≤◌, ◌<◌, length, map, take, Some, None, IfOk};
+ghost use Rattle.std.specs.Prelude.{if◌then◌else◌, slice_get, [], option_map};
 ghost use Rattle.std.specs.Bool.{OnTrue, OnFalse};
 ghost use Rattle.ldp_num.specs.Steps.{StepFits, StepsFit, step_value, results_of, most_steps};
 ghost use Rattle.ldp_num.specs.Written.{written};

@@ -1,4 +1,5 @@
-ghost use Rattle.std.specs.Prelude.{◌≡◌, ◌*◌, ◌^◌, ◌/◌, ◌<◌, ◌-ℤ◌, ◌≤ℤ◌, pos, negsuc, unsigned_abs, if◌then◌else◌, IfSome};
+ghost use Rattle.std.specs.Prelude.{◌≡◌, ◌*◌, ◌^◌, ◌/◌, ◌<◌, ◌-ℤ◌, ◌≤ℤ◌, pos, negsuc, unsigned_abs};
+ghost use Rattle.std.specs.Prelude.{if◌then◌else◌, IfSome};
 ghost use Rattle.ldp_num.specs.Number.{IsNumber};
 ghost use Rattle.ldp_num.specs.Plain.{floor_div, plain_div};
 

@@ -1,18 +1,24 @@
--- Values at numbered cells: their largest, the first cell that has it, and how many are beyond a tolerance.
-use Rattle.std.proofs.Common.{◌≡◌, ◌≤◌, ◌<◌, ◌+◌, ℕ, zero, suc, max, Bool, true, false, cond, List, [], ◌∷◌, ◌++◌, length, get_or, arith, refl, sym, ap, subst, ◌∙◌, ◌⊎◌, inl, inr}
+-- Values at numbered cells: their largest, the first cell that has it, and how many are beyond a
+-- tolerance.
+use Rattle.std.proofs.Common.{◌≡◌, ◌≤◌, ◌<◌, ◌+◌, ℕ, zero, suc, max, Bool, true, false, cond, List}
+use Rattle.std.proofs.Common.{[], ◌∷◌, ◌++◌, length, get_or, arith, refl, sym, ap, subst, ◌∙◌, ◌⊎◌}
+use Rattle.std.proofs.Common.{inl, inr}
 use Rattle.std.proofs.lemmas.Bool.{cases_lt}
 use Rattle.std.proofs.lemmas.Bool.Decides.{nat_tests}
 use Rattle.std.proofs.lemmas.List.{length-append, get_or_push, get_or_append_left}
-use Rattle.std.proofs.lemmas.List.Sums.{sum_by-append, sum_by-cons, fails_before_first, passes_at_first}
+use Rattle.std.proofs.lemmas.List.Sums.{sum_by-append, sum_by-cons, fails_before_first}
+use Rattle.std.proofs.lemmas.List.Sums.{passes_at_first}
 use Rattle.std.specs.Prelude.{Option, None, Some, nat_lt, ◌==◌, count_by}
 use Rattle.std.specs.List.{position_or_len, sum_by}
 use Rattle.ldp_problem.specs.Costs.{at_cells, largest, first_largest, beyond}
 
 pub length-at_cells : {A : Type 0} (f : ℕ → A) (n : ℕ) → length (at_cells f n) ≡ n
 length-at_cells f zero = refl
-length-at_cells f (suc n) = length-append (at_cells f n) (f n ∷ []) ∙ omega (arith, length-at_cells f n)
+length-at_cells f (suc n) =
+    length-append (at_cells f n) (f n ∷ []) ∙ omega (arith, length-at_cells f n)
 
-pub same_cells : {A : Type 0} (f g : ℕ → A) (n : ℕ) → ((cell : ℕ) → cell < n → f cell ≡ g cell) → at_cells f n ≡ at_cells g n
+pub same_cells : {A : Type 0} (f g : ℕ → A) (n : ℕ) → ((cell : ℕ) → cell < n → f cell ≡ g cell)
+    → at_cells f n ≡ at_cells g n
 same_cells f g zero same = refl
 same_cells f g (suc n) same =
     rw (same_cells f g n (λ cell h. same cell (omega arith)), same n (omega arith)) refl
@@ -47,7 +53,8 @@ unfolding counted
 counted_below tolerance m n h = grind (arith, nat_tests)
 
 count_push : (tolerance : ℕ) (xs : List ℕ) (x : ℕ)
-    → count_by (nat_lt tolerance) (xs ++ x ∷ []) ≡ count_by (nat_lt tolerance) xs + counted tolerance x
+    → count_by (nat_lt tolerance) (xs ++ x ∷ []) ≡ count_by (nat_lt tolerance) xs
+    + counted tolerance x
 unfolding counted
 count_push tolerance xs x =
     sum_by-append (λ v. cond (nat_lt tolerance v) 1 0) xs (x ∷ [])
@@ -65,7 +72,8 @@ count_below tolerance f g (suc n) below =
       counted_below tolerance (f n) (g n) (below n (omega arith)),
     ))
 
-pub beyond_below : (tolerance : Option ℕ) (f g : ℕ → ℕ) (n : ℕ) → ((cell : ℕ) → cell < n → f cell ≤ g cell)
+pub beyond_below : (tolerance : Option ℕ) (f g : ℕ → ℕ) (n : ℕ)
+    → ((cell : ℕ) → cell < n → f cell ≤ g cell)
     → beyond tolerance (at_cells f n) ≤ beyond tolerance (at_cells g n)
 beyond_below None f g n below = omega arith
 beyond_below (Some tolerance) f g n below = count_below tolerance f g n below
@@ -100,11 +108,13 @@ some_reached (x ∷ xs) h = reached_in x xs
 pub first_within : (xs : List ℕ) → 0 < length xs → first_largest xs < length xs
 first_within xs h = by_place (some_reached xs h) (cases_lt (first_largest xs) (length xs))
   where
-    by_place : Reached xs → (first_largest xs < length xs) ⊎ (length xs ≤ first_largest xs) → first_largest xs < length xs
+    by_place : Reached xs → (first_largest xs < length xs) ⊎ (length xs ≤ first_largest xs)
+        → first_largest xs < length xs
     by_place some (inl below) = below
     by_place some (inr past) =
         let fails : (get_or xs some.place 0 == largest xs) ≡ false =
-        fails_before_first (λ value. value == largest xs) xs some.place 0 (omega (arith, some.within)) in
+        fails_before_first (λ value. value == largest xs) xs some.place 0
+        (omega (arith, some.within)) in
         absurd (grind (arith, nat_tests, some.reached))
 
 pub first_reaches : (xs : List ℕ) → 0 < length xs → get_or xs (first_largest xs) 0 ≡ largest xs
@@ -114,14 +124,16 @@ first_reaches xs h =
     grind (arith, nat_tests)
 
 -- the value at a cell stands at its place
-pub cell_at : {A : Type 0} (f : ℕ → A) (n cell : ℕ) (d : A) → cell < n → get_or (at_cells f n) cell d ≡ f cell
+pub cell_at : {A : Type 0} (f : ℕ → A) (n cell : ℕ) (d : A) → cell < n
+    → get_or (at_cells f n) cell d ≡ f cell
 cell_at f zero cell d h = absurd (omega arith)
 cell_at f (suc n) cell d h = by_place (cases_lt cell n) (cell_at f n cell d)
   where
     by_place : (cell < n) ⊎ (n ≤ cell) → (cell < n → get_or (at_cells f n) cell d ≡ f cell)
         → get_or (at_cells f n ++ f n ∷ []) cell d ≡ f cell
     by_place (inl below) earlier =
-        get_or_append_left (at_cells f n) (f n ∷ []) d cell (omega (arith, length-at_cells f n)) ∙ earlier below
+        get_or_append_left (at_cells f n) (f n ∷ []) d cell (omega (arith, length-at_cells f n))
+        ∙ earlier below
     by_place (inr above) earlier =
         let last : cell ≡ n = omega arith in
         get_or_push (at_cells f n) (f n) d cell (length-at_cells f n ∙ sym last) ∙ ap f (sym last)

@@ -7,17 +7,20 @@ use Rattle.ldp_range.specs.Range.{pair_low_abs}
 use Rattle.ldp_range.specs.Laws.{TwinMost, TwinFewest, OwnTwin, TwinOfNumbers}
 
 -- how far a range lies from 0
-low_abs-is : (lo hi : ℤ) → lo ≤ℤ hi → pair_low_abs (lo, hi) ≡ int_max (pos 0) (int_max lo (pos 0 -ℤ hi))
+low_abs-is : (lo hi : ℤ) → lo ≤ℤ hi
+    → pair_low_abs (lo, hi) ≡ int_max (pos 0) (int_max lo (pos 0 -ℤ hi))
 low_abs-is (pos m) (pos n) h = grind (arith, ints, clamps)
 low_abs-is (pos m) (negsuc n) h = absurd (omega (arith, ints))
 low_abs-is (negsuc m) (pos n) h = grind (arith, ints, clamps)
 low_abs-is (negsuc m) (negsuc n) h = grind (arith, ints, clamps)
 
 pub most : TwinMost
-most range t h = rw (low_abs-is range.0 range.1 h.ordered) (omega (arith, ints, clamps, h.low.high, h.high.low))
+most range t h =
+    rw (low_abs-is range.0 range.1 h.ordered) (omega (arith, ints, clamps, h.low.high, h.high.low))
 
 pub fewest : TwinFewest
-fewest range t h = rw (low_abs-is range.0 range.1 h.ordered) (omega (arith, ints, clamps, h.low.low, h.high.high))
+fewest range t h =
+    rw (low_abs-is range.0 range.1 h.ordered) (omega (arith, ints, clamps, h.low.low, h.high.high))
 
 pub own : OwnTwin
 own range h = record {

@@ -6,10 +6,12 @@ use Rattle.ldp_range.specs.Laws.{HullHolds, AbsoluteBounds, LeastIsNatural, Abso
 
 -- what the hull holds
 left-in-hull : (n : ℤ) (a b : ℤ × ℤ) → LiesIn n a → LiesIn n (pair_hull a b)
-left-in-hull n a b h = record { low = omega (arith, ints, clamps, h.low); high = omega (arith, ints, clamps, h.high) }
+left-in-hull n a b h =
+    record { low = omega (arith, ints, clamps, h.low); high = omega (arith, ints, clamps, h.high) }
 
 right-in-hull : (n : ℤ) (a b : ℤ × ℤ) → LiesIn n b → LiesIn n (pair_hull a b)
-right-in-hull n a b h = record { low = omega (arith, ints, clamps, h.low); high = omega (arith, ints, clamps, h.high) }
+right-in-hull n a b h =
+    record { low = omega (arith, ints, clamps, h.low); high = omega (arith, ints, clamps, h.high) }
 
 -- no number in the range has an absolute value below the least, or above the greatest
 low_abs-natural : (a : ℤ × ℤ) → pos 0 ≤ℤ pair_low_abs a

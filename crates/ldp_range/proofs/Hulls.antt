@@ -44,6 +44,7 @@ pub hull-across : (p q r s : ℤ) → q ≤ℤ p → q ≤ℤ s → r ≤ℤ p �
     ≡ hull_of (number p ∷ number q ∷ number r ∷ number s ∷ [])
 hull-across p q r s a b c d = grind (arith, ints, clamps)
 
-pub across-ordered : (p q r s : ℤ) → q ≤ℤ p → (l h : ℤ) → of_both int_min (number q) (number r) ≡ Some l
+pub across-ordered : (p q r s : ℤ) → q ≤ℤ p → (l h : ℤ)
+    → of_both int_min (number q) (number r) ≡ Some l
     → of_both int_max (number p) (number s) ≡ Some h → l ≤ℤ h
 across-ordered p q r s a l h x y = grind (arith, ints, clamps)

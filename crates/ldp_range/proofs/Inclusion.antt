@@ -1,21 +1,28 @@
 -- Each operation at numbers in ranges lies in the range of the operation.
-use Rattle.std.proofs.Common.{◌≡◌, ℕ, zero, suc, ◌*◌, ◌<◌, ◌≤◌, true, false, [], ◌∷◌, Some, option_map, ℤ, pos, negsuc, ◌+ℤ◌, ◌-ℤ◌, ◌≤ℤ◌, ◌<ℤ◌, ◌⊎◌, inl, inr, refl, arith}
+use Rattle.std.proofs.Common.{◌≡◌, ℕ, zero, suc, ◌*◌, ◌<◌, ◌≤◌, true, false, [], ◌∷◌, Some}
+use Rattle.std.proofs.Common.{option_map, ℤ, pos, negsuc, ◌+ℤ◌, ◌-ℤ◌, ◌≤ℤ◌, ◌<ℤ◌, ◌⊎◌, inl, inr}
+use Rattle.std.proofs.Common.{refl, arith}
 use Rattle.std.specs.Prelude.{int_le}
 use Rattle.std.specs.Int.Signed.{≤ℤ_refl}
 use Rattle.std.proofs.lemmas.Int.{ints, clamps, by_lt_z}
 use Rattle.ldp_num.specs.Number.{IsNumber, number, one}
 use Rattle.ldp_num.specs.Root.{root}
-use Rattle.ldp_num.specs.Plain.{plain_add, plain_sub, plain_mul, plain_div, plain_sq, plain_sqrt, plain_need}
-use Rattle.ldp_num.specs.Ranges.{ends, hull_of, pair_add, pair_sub, pair_mul, pair_div, pair_sq, pair_sqrt, pair_need}
+use Rattle.ldp_num.specs.Plain.{plain_add, plain_sub, plain_mul, plain_div, plain_sq, plain_sqrt}
+use Rattle.ldp_num.specs.Plain.{plain_need}
+use Rattle.ldp_num.specs.Ranges.{ends, hull_of, pair_add, pair_sub, pair_mul, pair_div, pair_sq}
+use Rattle.ldp_num.specs.Ranges.{pair_sqrt, pair_need}
 use Rattle.ldp_num.specs.Written.{number_ops, range_ops}
 use Rattle.ldp_range.specs.Related.{Reaches, FollowsOne, FollowsTwo, Follows}
 use Rattle.ldp_range.specs.Range.{LiesIn}
 use Rattle.ldp_range.specs.Laws.{Inclusion, StepInclusion}
 use Rattle.ldp_range.proofs.Follows.{results_follow, values_follow}
-use Rattle.ldp_range.proofs.Orders.{product, product-up, product-down, product-right-up, product-right-down, quotient, quotient-up, quotient-down, quotient-rise, root-le}
+use Rattle.ldp_range.proofs.Orders.{product, product-up, product-down, product-right-up}
+use Rattle.ldp_range.proofs.Orders.{product-right-down, quotient, quotient-up, quotient-down}
+use Rattle.ldp_range.proofs.Orders.{quotient-rise, root-le}
 
 -- a number between two numbers is in their range
-pub ends-hold : (a b z l h : ℤ) → a ≤ℤ z → z ≤ℤ b → ends (number a) (number b) ≡ Some (l, h) → Reaches LiesIn (number z) (l, h)
+pub ends-hold : (a b z l h : ℤ) → a ≤ℤ z → z ≤ℤ b → ends (number a) (number b) ≡ Some (l, h)
+    → Reaches LiesIn (number z) (l, h)
 ends-hold a b z l h x y e = record {
   value = z;
   is = grind (arith, ints);
@@ -35,7 +42,8 @@ record Hulled (p q r s l h : ℤ) : Type 0 where
   third_high : r ≤ℤ h
   last_high : s ≤ℤ h
 
-hulled : (p q r s l h : ℤ) → hull_of (number p ∷ number q ∷ number r ∷ number s ∷ []) ≡ Some (l, h) → Hulled p q r s l h
+hulled : (p q r s l h : ℤ) → hull_of (number p ∷ number q ∷ number r ∷ number s ∷ []) ≡ Some (l, h)
+    → Hulled p q r s l h
 hulled p q r s l h e = record {
   low_number = record { low = grind (arith, ints, clamps); high = grind (arith, ints, clamps) };
   high_number = record { low = grind (arith, ints, clamps); high = grind (arith, ints, clamps) };
@@ -61,7 +69,8 @@ between-high : (z x y h : ℤ) → Between z x y → x ≤ℤ h → y ≤ℤ h �
 between-high z x y h (inl b) k l = omega (arith, ints)
 between-high z x y h (inr b) k l = omega (arith, ints)
 
-number-within : (l h z : ℤ) → IsNumber l → IsNumber h → l ≤ℤ z → z ≤ℤ h → Reaches LiesIn (number z) (l, h)
+number-within : (l h z : ℤ) → IsNumber l → IsNumber h → l ≤ℤ z → z ≤ℤ h
+    → Reaches LiesIn (number z) (l, h)
 number-within l h z a b x y = record {
   value = z;
   is = grind (arith, ints);
@@ -69,51 +78,66 @@ number-within l h z a b x y = record {
 }
 
 hull-holds : (p q r s u v z l h : ℤ) → Between u p r → Between v q s → Between z u v
-    → hull_of (number p ∷ number q ∷ number r ∷ number s ∷ []) ≡ Some (l, h) → Reaches LiesIn (number z) (l, h)
+    → hull_of (number p ∷ number q ∷ number r ∷ number s ∷ []) ≡ Some (l, h)
+    → Reaches LiesIn (number z) (l, h)
 hull-holds p q r s u v z l h left right middle e =
     let held = hulled p q r s l h e in
     number-within l h z held.low_number held.high_number
-    (between-low z u v l middle (between-low u p r l left held.first_low held.third_low) (between-low v q s l right held.second_low held.last_low))
-    (between-high z u v h middle (between-high u p r h left held.first_high held.third_high) (between-high v q s h right held.second_high held.last_high))
+    (between-low z u v l middle (between-low u p r l left held.first_low held.third_low)
+    (between-low v q s l right held.second_low held.last_low))
+    (between-high z u v h middle (between-high u p r h left held.first_high held.third_high)
+    (between-high v q s h right held.second_high held.last_high))
 
-product-between : (lo hi x k : ℤ) → lo ≤ℤ x → x ≤ℤ hi → Between (product x k) (product lo k) (product hi k)
+product-between : (lo hi x k : ℤ) → lo ≤ℤ x → x ≤ℤ hi
+    → Between (product x k) (product lo k) (product hi k)
 product-between lo hi x k h l =
     by_lt_z k (pos 0)
-    (λ n. let m : k ≤ℤ pos 0 = omega (arith, ints) in inr (product-down x hi k l m, product-down lo x k h m))
+    (λ n. let m : k ≤ℤ pos 0 =
+    omega (arith, ints) in inr (product-down x hi k l m, product-down lo x k h m))
     (λ n. inl (product-up lo x k h n, product-up x hi k l n))
 
-product-right-between : (x low high y : ℤ) → low ≤ℤ y → y ≤ℤ high → Between (product x y) (product x low) (product x high)
+product-right-between : (x low high y : ℤ) → low ≤ℤ y → y ≤ℤ high
+    → Between (product x y) (product x low) (product x high)
 product-right-between x low high y h l =
     by_lt_z x (pos 0)
-    (λ n. let m : x ≤ℤ pos 0 = omega (arith, ints) in inr (product-right-down x y high l m, product-right-down x low y h m))
+    (λ n. let m : x ≤ℤ pos 0 =
+    omega (arith, ints) in inr
+    (product-right-down x y high l m, product-right-down x low y h m))
     (λ n. inl (product-right-up x low y h n, product-right-up x y high l n))
 
-quotient-between : (x : ℤ) (d e k : ℕ) → 0 < d → d ≤ k → k ≤ e → Between (quotient x k) (quotient x d) (quotient x e)
+quotient-between : (x : ℤ) (d e k : ℕ) → 0 < d → d ≤ k → k ≤ e
+    → Between (quotient x k) (quotient x d) (quotient x e)
 quotient-between x d e k a h l =
     let b : 0 < k = omega arith in
     by_lt_z x (pos 0)
-    (λ n. let m : x ≤ℤ pos 0 = omega (arith, ints) in inl (quotient-rise x d k a h m, quotient-rise x k e b l m))
+    (λ n. let m : x ≤ℤ pos 0 =
+    omega (arith, ints) in inl (quotient-rise x d k a h m, quotient-rise x k e b l m))
     (λ n. inr (quotient-down x k e b l n, quotient-down x d k a h n))
 
 pub add-holds : FollowsTwo LiesIn plain_add pair_add
 add-holds a c b d t x y e =
-    ends-hold (b.0 +ℤ d.0) (b.1 +ℤ d.1) (a +ℤ c) t.0 t.1 (omega (arith, ints, x.low, y.low)) (omega (arith, ints, x.high, y.high)) e
+    ends-hold (b.0 +ℤ d.0) (b.1 +ℤ d.1) (a +ℤ c) t.0 t.1 (omega (arith, ints, x.low, y.low))
+    (omega (arith, ints, x.high, y.high)) e
 
 pub sub-holds : FollowsTwo LiesIn plain_sub pair_sub
 sub-holds a c b d t x y e =
-    ends-hold (b.0 -ℤ d.1) (b.1 -ℤ d.0) (a -ℤ c) t.0 t.1 (omega (arith, ints, x.low, y.high)) (omega (arith, ints, x.high, y.low)) e
+    ends-hold (b.0 -ℤ d.1) (b.1 -ℤ d.0) (a -ℤ c) t.0 t.1 (omega (arith, ints, x.low, y.high))
+    (omega (arith, ints, x.high, y.low)) e
 
 pub mul-holds : FollowsTwo LiesIn plain_mul pair_mul
 mul-holds a c b d t x y e =
-    hull-holds (product b.0 d.0) (product b.0 d.1) (product b.1 d.0) (product b.1 d.1) (product a d.0) (product a d.1) (product a c) t.0 t.1
-    (product-between b.0 b.1 a d.0 x.low x.high) (product-between b.0 b.1 a d.1 x.low x.high) (product-right-between a d.0 d.1 c y.low y.high) e
+    hull-holds (product b.0 d.0) (product b.0 d.1) (product b.1 d.0) (product b.1 d.1)
+    (product a d.0) (product a d.1) (product a c) t.0 t.1
+    (product-between b.0 b.1 a d.0 x.low x.high) (product-between b.0 b.1 a d.1 x.low x.high)
+    (product-right-between a d.0 d.1 c y.low y.high) e
 
 quotient-holds : (a c lo hi low high l h : ℤ) → lo ≤ℤ a → a ≤ℤ hi → low ≤ℤ c → c ≤ℤ high
     → pair_div (lo, hi) (low, high) ≡ Some (l, h) → Reaches LiesIn (plain_div a c) (l, h)
 quotient-holds a (pos (suc k)) lo hi (pos (suc d)) (pos (suc e)) l h w x y z eq =
     let less : suc d ≤ suc k = omega (arith, ints) in
     let more : suc k ≤ suc e = omega (arith, ints) in
-    hull-holds (quotient lo (suc d)) (quotient lo (suc e)) (quotient hi (suc d)) (quotient hi (suc e))
+    hull-holds (quotient lo (suc d)) (quotient lo (suc e)) (quotient hi (suc d))
+    (quotient hi (suc e))
     (quotient a (suc d)) (quotient a (suc e)) (quotient a (suc k)) l h
     (inl (quotient-up lo a (suc d) (omega arith) w, quotient-up a hi (suc d) (omega arith) x))
     (inl (quotient-up lo a (suc e) (omega arith) w, quotient-up a hi (suc e) (omega arith) x))
@@ -122,8 +146,10 @@ quotient-holds a c lo hi (pos zero) high l h w x y z eq = cc
 quotient-holds a c lo hi (negsuc d) high l h w x y z eq = cc
 quotient-holds a (pos zero) lo hi (pos (suc d)) high l h w x y z eq = absurd (omega (arith, ints))
 quotient-holds a (negsuc k) lo hi (pos (suc d)) high l h w x y z eq = absurd (omega (arith, ints))
-quotient-holds a (pos (suc k)) lo hi (pos (suc d)) (pos zero) l h w x y z eq = absurd (omega (arith, ints))
-quotient-holds a (pos (suc k)) lo hi (pos (suc d)) (negsuc e) l h w x y z eq = absurd (omega (arith, ints))
+quotient-holds a (pos (suc k)) lo hi (pos (suc d)) (pos zero) l h w x y z eq =
+    absurd (omega (arith, ints))
+quotient-holds a (pos (suc k)) lo hi (pos (suc d)) (negsuc e) l h w x y z eq =
+    absurd (omega (arith, ints))
 
 pub div-holds : FollowsTwo LiesIn plain_div pair_div
 div-holds a c b d t x y e = quotient-holds a c b.0 b.1 d.0 d.1 t.0 t.1 x.low x.high y.low y.high e
@@ -150,14 +176,16 @@ pub square-above : (x : ℤ) → pos 0 ≤ℤ product x x
 square-above (pos n) = square-up (pos 0) (pos n) (≤ℤ_refl (pos 0)) (omega (arith, ints))
 square-above (negsuc n) = square-down (negsuc n) (pos 0) (omega (arith, ints)) (≤ℤ_refl (pos 0))
 
-square-below : (lo hi x : ℤ) → lo ≤ℤ x → x ≤ℤ hi → (product x x ≤ℤ product lo lo) ⊎ (product x x ≤ℤ product hi hi)
+square-below : (lo hi x : ℤ) → lo ≤ℤ x → x ≤ℤ hi
+    → (product x x ≤ℤ product lo lo) ⊎ (product x x ≤ℤ product hi hi)
 square-below lo hi x h k =
     by_lt_z x (pos 0)
     (λ n. inl (square-down lo x h (omega (arith, ints))))
     (λ n. inr (square-up x hi n k))
 
 across-hold : (p s z l h : ℤ) → pos 0 ≤ℤ z → (z ≤ℤ p) ⊎ (z ≤ℤ s)
-    → option_map {U = ℤ × ℤ} (λ r. (pos 0, r.1)) (hull_of (number p ∷ number s ∷ [])) ≡ Some (l, h) → Reaches LiesIn (number z) (l, h)
+    → option_map {U = ℤ × ℤ} (λ r. (pos 0, r.1)) (hull_of (number p ∷ number s ∷ [])) ≡ Some (l, h)
+    → Reaches LiesIn (number z) (l, h)
 across-hold p s z l h a (inl b) e = record {
   value = z;
   is = grind (arith, ints, clamps);
@@ -169,27 +197,33 @@ across-hold p s z l h a (inr b) e = record {
   related = record { low = grind (arith, ints, clamps); high = grind (arith, ints, clamps) };
 }
 
-square-holds : (a lo hi l h : ℤ) → lo ≤ℤ a → a ≤ℤ hi → pair_sq (lo, hi) ≡ Some (l, h) → Reaches LiesIn (plain_sq a) (l, h)
+square-holds : (a lo hi l h : ℤ) → lo ≤ℤ a → a ≤ℤ hi → pair_sq (lo, hi) ≡ Some (l, h)
+    → Reaches LiesIn (plain_sq a) (l, h)
 square-holds a lo hi l h x y e =
     by_lt_z lo (pos 0)
     (λ n. by_lt_z (pos 0) hi
-    (λ m. across-hold (product lo lo) (product hi hi) (product a a) l h (square-above a) (square-below lo hi a x y)
+    (λ m. across-hold (product lo lo) (product hi hi) (product a a) l h (square-above a)
+    (square-below lo hi a x y)
     (rw (le-false (pos 0) lo n, le-false hi (pos 0) m) at e))
-    (λ m. ends-hold (product hi hi) (product lo lo) (product a a) l h (square-down a hi y m) (square-down lo a x (omega (arith, ints)))
+    (λ m. ends-hold (product hi hi) (product lo lo) (product a a) l h (square-down a hi y m)
+    (square-down lo a x (omega (arith, ints)))
     (rw (le-false (pos 0) lo n, le-true hi (pos 0) m) at e)))
-    (λ n. ends-hold (product lo lo) (product hi hi) (product a a) l h (square-up lo a n x) (square-up a hi (omega (arith, ints)) y)
+    (λ n. ends-hold (product lo lo) (product hi hi) (product a a) l h (square-up lo a n x)
+    (square-up a hi (omega (arith, ints)) y)
     (rw (le-true (pos 0) lo n) at e))
 
 pub sq-holds : FollowsOne LiesIn plain_sq pair_sq
 sq-holds a b t x e = square-holds a b.0 b.1 t.0 t.1 x.low x.high e
 
-root-holds : (a lo hi l h : ℤ) → lo ≤ℤ a → a ≤ℤ hi → pair_sqrt (lo, hi) ≡ Some (l, h) → Reaches LiesIn (plain_sqrt a) (l, h)
+root-holds : (a lo hi l h : ℤ) → lo ≤ℤ a → a ≤ℤ hi → pair_sqrt (lo, hi) ≡ Some (l, h)
+    → Reaches LiesIn (plain_sqrt a) (l, h)
 root-holds (pos k) (pos m) (pos n) l h x y e =
     let low : m * one ≤ k * one = omega (arith, ints) in
     let high : k * one ≤ n * one = omega (arith, ints) in
     let left = root-le (m * one) (k * one) low in
     let right = root-le (k * one) (n * one) high in
-    ends-hold (pos (root (m * one))) (pos (root (n * one))) (pos (root (k * one))) l h (omega (arith, ints)) (omega (arith, ints)) e
+    ends-hold (pos (root (m * one))) (pos (root (n * one))) (pos (root (k * one))) l h
+    (omega (arith, ints)) (omega (arith, ints)) e
 root-holds a (negsuc m) hi l h x y e = cc
 root-holds (negsuc k) (pos m) hi l h x y e = absurd (omega (arith, ints))
 root-holds (pos k) (pos m) (negsuc n) l h x y e = absurd (omega (arith, ints))
@@ -197,7 +231,8 @@ root-holds (pos k) (pos m) (negsuc n) l h x y e = absurd (omega (arith, ints))
 pub sqrt-holds : FollowsOne LiesIn plain_sqrt pair_sqrt
 sqrt-holds a b t x e = root-holds a b.0 b.1 t.0 t.1 x.low x.high e
 
-natural-holds : (a lo hi l h : ℤ) → lo ≤ℤ a → a ≤ℤ hi → pair_need (lo, hi) ≡ Some (l, h) → Reaches LiesIn (plain_need a) (l, h)
+natural-holds : (a lo hi l h : ℤ) → lo ≤ℤ a → a ≤ℤ hi → pair_need (lo, hi) ≡ Some (l, h)
+    → Reaches LiesIn (plain_need a) (l, h)
 natural-holds (pos k) (pos m) (pos n) l h x y e = record {
   value = pos k;
   is = refl;

@@ -1,5 +1,6 @@
 -- The orders of sums, products, quotients and roots.
-use Rattle.std.proofs.Common.{◌≡◌, ℕ, zero, suc, ◌*◌, ◌/◌, ◌<◌, ◌≤◌, ℤ, pos, negsuc, ◌*ℤ◌, ◌≤ℤ◌, ◌⊎◌, inl, inr, ap, lit<, arith}
+use Rattle.std.proofs.Common.{◌≡◌, ℕ, zero, suc, ◌*◌, ◌/◌, ◌<◌, ◌≤◌, ℤ, pos, negsuc, ◌*ℤ◌, ◌≤ℤ◌}
+use Rattle.std.proofs.Common.{◌⊎◌, inl, inr, ap, lit<, arith}
 use Rattle.std.proofs.Math.Nat.{mul-le-mul_left, mul-le-mul_right, div-mul-le_self, zero-div}
 use Rattle.std.proofs.Math.IntN.{*ℤ_comm, *ℤ-zero}
 use Rattle.std.proofs.lemmas.Nat.{le-div}
@@ -24,7 +25,8 @@ floor-le (negsuc a) (negsuc b) d h k = omega (arith, ints, div-le-div b a d h (o
 
 -- a greater factor, times one that is not below 0
 pub times-up : (x y k : ℤ) → x ≤ℤ y → pos 0 ≤ℤ k → (x *ℤ k) ≤ℤ (y *ℤ k)
-times-up (pos a) (pos b) (pos c) h l = omega (arith, ints, mul-le-mul_right {m = a} {n = b} c (omega (arith, ints)))
+times-up (pos a) (pos b) (pos c) h l =
+    omega (arith, ints, mul-le-mul_right {m = a} {n = b} c (omega (arith, ints)))
 times-up (pos a) (negsuc b) (pos c) h l = absurd (omega (arith, ints))
 times-up (negsuc a) (pos b) (pos c) h l = omega (arith, ints)
 times-up (negsuc a) (negsuc b) (pos c) h l =
@@ -76,7 +78,8 @@ abbrev pub quotient : ℤ → ℕ → ℤ
 quotient a d = floor_div (a *ℤ pos one) d
 
 pub quotient-up : (x y : ℤ) (d : ℕ) → 0 < d → x ≤ℤ y → quotient x d ≤ℤ quotient y d
-quotient-up x y d h k = floor-le (x *ℤ pos one) (y *ℤ pos one) d h (times-up x y (pos one) k (le_z_yes tt))
+quotient-up x y d h k =
+    floor-le (x *ℤ pos one) (y *ℤ pos one) d h (times-up x y (pos one) k (le_z_yes tt))
 
 div-anti : (n d e : ℕ) → 0 < d → d ≤ e → n / e ≤ n / d
 div-anti n d e h k =
@@ -94,7 +97,9 @@ floor-rise (pos (suc n)) d e h k l = absurd (omega (arith, ints))
 floor-rise (negsuc n) d e h k l = omega (arith, ints, div-anti n d e h k)
 
 pub quotient-down : (a : ℤ) (d e : ℕ) → 0 < d → d ≤ e → pos 0 ≤ℤ a → quotient a e ≤ℤ quotient a d
-quotient-down a d e h k l = floor-down (a *ℤ pos one) d e h k (times-up (pos 0) a (pos one) l (le_z_yes tt))
+quotient-down a d e h k l =
+    floor-down (a *ℤ pos one) d e h k (times-up (pos 0) a (pos one) l (le_z_yes tt))
 
 pub quotient-rise : (a : ℤ) (d e : ℕ) → 0 < d → d ≤ e → a ≤ℤ pos 0 → quotient a d ≤ℤ quotient a e
-quotient-rise a d e h k l = floor-rise (a *ℤ pos one) d e h k (times-up a (pos 0) (pos one) l (le_z_yes tt))
+quotient-rise a d e h k l =
+    floor-rise (a *ℤ pos one) d e h k (times-up a (pos 0) (pos one) l (le_z_yes tt))

@@ -1,5 +1,6 @@
 -- Each operation at pairs of equal ends is the pair of the number's.
-use Rattle.std.proofs.Common.{◌≡◌, true, List, [], ◌∷◌, map, Option, Some, None, option_map, ℤ, pos, negsuc, ap, sym, ◌∙◌, ◌≤ℤ◌, refl, arith}
+use Rattle.std.proofs.Common.{◌≡◌, true, List, [], ◌∷◌, map, Option, Some, None, option_map, ℤ, pos}
+use Rattle.std.proofs.Common.{negsuc, ap, sym, ◌∙◌, ◌≤ℤ◌, refl, arith}
 use Rattle.std.specs.Prelude.{int_le}
 use Rattle.std.specs.Int.{int_min, int_max}
 use Rattle.std.proofs.lemmas.Int.{ints, clamps}
@@ -50,18 +51,22 @@ half-reached (Some n) t e = record { value = n; is = refl; related = sym (same_S
 twice-reached : (o : Option ℤ) (n : ℤ) → o ≡ Some n → Reaches IsTwice (option_map twice o) n
 twice-reached o n e = record { value = twice n; is = ap (option_map twice) e; related = refl }
 
-two-half : (f : ℤ → ℤ → Option ℤ) (g : ℤ × ℤ → ℤ × ℤ → Option (ℤ × ℤ)) → ((a c : ℤ) → g (twice a) (twice c) ≡ option_map twice (f a c))
+two-half : (f : ℤ → ℤ → Option ℤ) (g : ℤ × ℤ → ℤ × ℤ → Option (ℤ × ℤ))
+    → ((a c : ℤ) → g (twice a) (twice c) ≡ option_map twice (f a c))
     → FollowsTwo IsHalf f g
 two-half f g same a c b d t x y e = half-reached (f a c) t (sym (same a c) ∙ (rw (x, y) at e))
 
-two-twice : (f : ℤ → ℤ → Option ℤ) (g : ℤ × ℤ → ℤ × ℤ → Option (ℤ × ℤ)) → ((a c : ℤ) → g (twice a) (twice c) ≡ option_map twice (f a c))
+two-twice : (f : ℤ → ℤ → Option ℤ) (g : ℤ × ℤ → ℤ × ℤ → Option (ℤ × ℤ))
+    → ((a c : ℤ) → g (twice a) (twice c) ≡ option_map twice (f a c))
     → FollowsTwo IsTwice g f
 two-twice f g same b d a c n x y e = rw (x, y, same a c) (twice-reached (f a c) n e)
 
-one-half : (f : ℤ → Option ℤ) (g : ℤ × ℤ → Option (ℤ × ℤ)) → ((a : ℤ) → g (twice a) ≡ option_map twice (f a)) → FollowsOne IsHalf f g
+one-half : (f : ℤ → Option ℤ) (g : ℤ × ℤ → Option (ℤ × ℤ))
+    → ((a : ℤ) → g (twice a) ≡ option_map twice (f a)) → FollowsOne IsHalf f g
 one-half f g same a b t x e = half-reached (f a) t (sym (same a) ∙ (rw x at e))
 
-one-twice : (f : ℤ → Option ℤ) (g : ℤ × ℤ → Option (ℤ × ℤ)) → ((a : ℤ) → g (twice a) ≡ option_map twice (f a)) → FollowsOne IsTwice g f
+one-twice : (f : ℤ → Option ℤ) (g : ℤ × ℤ → Option (ℤ × ℤ))
+    → ((a : ℤ) → g (twice a) ≡ option_map twice (f a)) → FollowsOne IsTwice g f
 one-twice f g same b a n x e = rw (x, same a) (twice-reached (f a) n e)
 
 halves-follow : Follows IsHalf number_ops range_ops
@@ -96,7 +101,8 @@ points-twices : (points : List ℤ) → Pairwise IsTwice (map twice points) poin
 points-twices [] = tt
 points-twices (n ∷ ns) = (refl, points-twices ns)
 
-twices-map : (pairs : List (ℤ × ℤ)) (values : List ℤ) → Pairwise IsTwice pairs values → pairs ≡ map twice values
+twices-map : (pairs : List (ℤ × ℤ)) (values : List ℤ) → Pairwise IsTwice pairs values
+    → pairs ≡ map twice values
 twices-map [] [] h = refl
 twices-map [] (n ∷ ns) h = absurd h
 twices-map (p ∷ ps) [] h = absurd h
@@ -116,11 +122,15 @@ both-ways (Some ns) pairs down up =
 pub sharpness : Sharpness
 sharpness list points =
     both-ways (value list points) (value_in range_ops list (map twice points))
-    (λ ps e. values_follow IsHalf number_ops range_ops halves-follow list points (map twice points) ps (points-halves points) e)
-    (λ ns e. values_follow IsTwice range_ops number_ops twices-follow list (map twice points) points ns (points-twices points) e)
+    (λ ps e. values_follow IsHalf number_ops range_ops halves-follow list points (map twice points)
+    ps (points-halves points) e)
+    (λ ns e. values_follow IsTwice range_ops number_ops twices-follow list (map twice points) points
+    ns (points-twices points) e)
 
 pub step-sharpness : StepSharpness
 step-sharpness steps points =
     both-ways (results_of number_ops points steps) (results_of range_ops (map twice points) steps)
-    (λ ps e. results_follow IsHalf number_ops range_ops halves-follow steps points (map twice points) ps (points-halves points) e)
-    (λ ns e. results_follow IsTwice range_ops number_ops twices-follow steps (map twice points) points ns (points-twices points) e)
+    (λ ps e. results_follow IsHalf number_ops range_ops halves-follow steps points
+    (map twice points) ps (points-halves points) e)
+    (λ ns e. results_follow IsTwice range_ops number_ops twices-follow steps (map twice points)
+    points ns (points-twices points) e)

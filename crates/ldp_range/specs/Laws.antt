@@ -5,7 +5,8 @@ use Rattle.ldp_num.specs.Twins.{TwinPair}
 use Rattle.ldp_num.specs.Written.{Ops, number_ops, range_ops, twin_ops}
 use Rattle.ldp_num.specs.Steps.{results_of}
 use Rattle.ldp_num.specs.StepList.{StepList, value, value_in}
-use Rattle.ldp_range.specs.Range.{twice, LiesIn, IsNarrower, pair_hull, magnitude, pair_low_abs, pair_high_abs}
+use Rattle.ldp_range.specs.Range.{twice, LiesIn, IsNarrower, pair_hull, magnitude, pair_low_abs}
+use Rattle.ldp_range.specs.Range.{pair_high_abs}
 use Rattle.ldp_range.specs.Twin.{IsHeld, ends_twin, twin_most, twin_fewest}
 use Rattle.ldp_range.specs.Related.{Follows, ResultsFollow, ValuesFollow}
 

@@ -1,4 +1,5 @@
-ghost use Rattle.std.specs.Prelude.{◌≡◌, ◌≤ℤ◌, ◌-ℤ◌, int_le, pos, unsigned_abs, IfSome, if◌then◌else◌};
+ghost use Rattle.std.specs.Prelude.{◌≡◌, ◌≤ℤ◌, ◌-ℤ◌, int_le, pos, unsigned_abs, IfSome};
+ghost use Rattle.std.specs.Prelude.{if◌then◌else◌};
 ghost use Rattle.std.specs.Int.{int_min, int_max};
 ghost use Rattle.ldp_num.specs.Number.{IsNumber};
 ghost use Rattle.ldp_range.specs.Choice.{of_both};

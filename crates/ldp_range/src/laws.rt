@@ -1,5 +1,6 @@
 //! The laws of ranges, for a formula as a whole, and for a range.
-ghost use Rattle.ldp_range.specs.Laws.{Inclusion, StepInclusion, Sharpness, StepSharpness, Following};
+ghost use Rattle.ldp_range.specs.Laws.{Inclusion, StepInclusion, Sharpness, StepSharpness};
+ghost use Rattle.ldp_range.specs.Laws.{Following};
 ghost use Rattle.ldp_range.specs.Laws.{Isotony, StepIsotony, TwinInclusion, StepTwinInclusion};
 ghost use Rattle.ldp_range.specs.Laws.{TwinMost, TwinFewest, OwnTwin, TwinOfNumbers};
 ghost use Rattle.ldp_range.specs.Laws.{HullHolds, AbsoluteBounds, LeastIsNatural, AbsoluteOfOne};

@@ -1,6 +1,7 @@
 ghost use Rattle.std.specs.Prelude.{◌≡◌, if◌then◌else◌, int_le, pos};
 ghost use Rattle.ldp_num.specs.Ranges.{pair_mul};
-ghost use Rattle.ldp_num.specs.Twins.{by_signs, lesser_of, greater_of, twin_raised, twin_lowered, twin_corners, twin_mul};
+ghost use Rattle.ldp_num.specs.Twins.{by_signs, lesser_of, greater_of, twin_raised, twin_lowered};
+ghost use Rattle.ldp_num.specs.Twins.{twin_corners, twin_mul};
 
 use crate::pairs::{greater_range, is_at_most_zero, is_natural, lesser_range, times};
 use crate::range::Range;

@@ -1,7 +1,9 @@
 -- The box that is split next, and the end of the search.
-use Rattle.std.proofs.Common.{◌≡◌, ◌≤◌, ◌+◌, ℕ, zero, suc, true, false, List, [], ◌∷◌, inl, inr, length, Option, None, Some, refl, sym, ap, subst, ◌∙◌, arith}
+use Rattle.std.proofs.Common.{◌≡◌, ◌≤◌, ◌+◌, ℕ, zero, suc, true, false, List, [], ◌∷◌, inl, inr}
+use Rattle.std.proofs.Common.{length, Option, None, Some, refl, sym, ap, subst, ◌∙◌, arith}
 use Rattle.std.proofs.lemmas.List.Elements.{All-nil, All-cons, All-head, All-tail, All-weaker}
-use Rattle.std.proofs.lemmas.List.Sorted.{All-permutation, IsPermutation-sym, length_permutation, sum_by_popped}
+use Rattle.std.proofs.lemmas.List.Sorted.{All-permutation, IsPermutation-sym, length_permutation}
+use Rattle.std.proofs.lemmas.List.Sorted.{sum_by_popped}
 use Rattle.std.proofs.lemmas.List.Sums.{sum_by-cons}
 use Rattle.std.proofs.lemmas.Option.{slice_get_within}
 use Rattle.std.specs.Prelude.{All, Any, option_map}
@@ -30,8 +32,11 @@ use Rattle.ldp_search.specs.declared.bounded_box.BoundedBox.{BoundedBox}
 use Rattle.ldp_search.specs.declared.candidate.Candidate.{Candidate}
 use Rattle.ldp_search.specs.declared.state.State.{State}
 use Rattle.ldp_search.specs.Candidates.{cost_shown, cost_held, ranked_of, IsCandidate}
-use Rattle.ldp_search.specs.Explored.{nodes_of, nodes_on, Advances, Holds, IsSplittable, IsBeaten, IsAccounted, IsExplored, IsWaiting, IsReady, IsDone, later, waiting, held, beaten}
-use Rattle.ldp_search.proofs.Bounds.{or_true, at_most_itself, at_most_trans, better_at_most, below_better, below_at_most}
+use Rattle.ldp_search.specs.Explored.{nodes_of, nodes_on, Advances, Holds, IsSplittable, IsBeaten}
+use Rattle.ldp_search.specs.Explored.{IsAccounted, IsExplored, IsWaiting, IsReady, IsDone, later}
+use Rattle.ldp_search.specs.Explored.{waiting, held, beaten}
+use Rattle.ldp_search.proofs.Bounds.{or_true, at_most_itself, at_most_trans, better_at_most}
+use Rattle.ldp_search.proofs.Bounds.{below_better, below_at_most}
 use Rattle.ldp_search.proofs.Counts.{nodes_split, nodes_closed}
 use Rattle.ldp_search.proofs.Judged.{candidate_ranked, held_above}
 use Rattle.ldp_search.proofs.Singles.{several_usable}

@@ -1,5 +1,6 @@
 -- The nodes of boxes in the canonical forest.
-use Rattle.std.proofs.Common.{◌≡◌, ◌≤◌, ◌<◌, ◌+◌, ℕ, true, false, ◌||◌, List, [], ◌∷◌, length, None, Some, ap, ◌∙◌, arith}
+use Rattle.std.proofs.Common.{◌≡◌, ◌≤◌, ◌<◌, ◌+◌, ℕ, true, false, ◌||◌, List, [], ◌∷◌, length, None}
+use Rattle.std.proofs.Common.{Some, ap, ◌∙◌, arith}
 use Rattle.std.proofs.lemmas.List.Elements.{All-head, All-tail}
 use Rattle.std.proofs.lemmas.List.Sums.{sum_by-cons}
 use Rattle.std.specs.Prelude.{All}
@@ -13,7 +14,8 @@ use Rattle.ldp_problem.specs.Problem.{Problem}
 use Rattle.ldp_problem.specs.Costs.{bound, unusable_at}
 use Rattle.ldp_optimum.specs.Best.{least}
 use Rattle.ldp_optimum.specs.Forest.{is_above, tree_of, needed}
-use Rattle.ldp_optimum.proofs.Trees.{tree_unusable, tree_closed, tree_split, split_counts, trees_have_nodes}
+use Rattle.ldp_optimum.proofs.Trees.{tree_unusable, tree_closed, tree_split, split_counts}
+use Rattle.ldp_optimum.proofs.Trees.{trees_have_nodes}
 use Rattle.ldp_optimum.proofs.Forests.{first_trees_count}
 use Rattle.ldp_search.specs.declared.bounded_box.BoundedBox.{BoundedBox}
 use Rattle.ldp_search.specs.declared.state.State.{State}

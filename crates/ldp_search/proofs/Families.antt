@@ -1,5 +1,6 @@
 -- The forest, one family after the other.
-use Rattle.std.proofs.Common.{◌≡◌, ◌≤◌, ◌+◌, ℕ, suc, List, [], ◌∷◌, ◌++◌, length, Some, refl, sym, ap, ◌∙◌, arith, append_assoc}
+use Rattle.std.proofs.Common.{◌≡◌, ◌≤◌, ◌+◌, ℕ, suc, List, [], ◌∷◌, ◌++◌, length, Some, refl, sym}
+use Rattle.std.proofs.Common.{ap, ◌∙◌, arith, append_assoc}
 use Rattle.std.proofs.lemmas.List.Sums.{sum_by-cons}
 use Rattle.ldp_design.specs.declared.design_box.DesignBox.{DesignBox}
 use Rattle.ldp_design.specs.declared.family.Family.{Family}

@@ -1,5 +1,6 @@
 -- What each step of a search keeps.
-use Rattle.std.proofs.Common.{◌≡◌, ◌<◌, ◌+◌, ℕ, zero, suc, List, [], ◌∷◌, inl, inr, None, Some, refl, sym, ap, subst, ◌∙◌, arith}
+use Rattle.std.proofs.Common.{◌≡◌, ◌<◌, ◌+◌, ℕ, zero, suc, List, [], ◌∷◌, inl, inr, None, Some}
+use Rattle.std.proofs.Common.{refl, sym, ap, subst, ◌∙◌, arith}
 use Rattle.std.proofs.lemmas.List.Elements.{All-nil, All-cons, All-tail}
 use Rattle.std.proofs.lemmas.List.Sorted.{All-permutation, length_permutation, sum_by_pushed}
 use Rattle.std.proofs.lemmas.List.Sums.{sum_by-cons}
@@ -20,7 +21,8 @@ use Rattle.ldp_search.specs.declared.bounded_box.BoundedBox.{BoundedBox}
 use Rattle.ldp_search.specs.declared.candidate.Candidate.{Candidate}
 use Rattle.ldp_search.specs.declared.state.State.{State}
 use Rattle.ldp_search.specs.Candidates.{IsCandidate}
-use Rattle.ldp_search.specs.Explored.{nodes_of, IsSplittable, IsBeaten, Holds, IsAccounted, IsExplored, later, waiting, held, beaten}
+use Rattle.ldp_search.specs.Explored.{nodes_of, IsSplittable, IsBeaten, Holds, IsAccounted}
+use Rattle.ldp_search.specs.Explored.{IsExplored, later, waiting, held, beaten}
 use Rattle.ldp_search.proofs.Lists.{Any-head, Any-tail, Any-cases, Any-permutation}
 
 -- before the first family

@@ -1,6 +1,7 @@
 -- Boxes of one design.
 use Rattle.std.specs.Prelude.{ℤ, pos, unsigned_abs}
-use Rattle.std.proofs.Common.{◌≡◌, ◌≤◌, ℕ, Bool, true, false, List, Option, None, Some, refl, sym, ap, ◌∙◌, arith}
+use Rattle.std.proofs.Common.{◌≡◌, ◌≤◌, ℕ, Bool, true, false, List, Option, None, Some, refl, sym}
+use Rattle.std.proofs.Common.{ap, ◌∙◌, arith}
 use Rattle.ldp_design.specs.declared.axis.AxisName.TheVariants.{Lat, Lon, Azimuth, Scale}
 use Rattle.ldp_design.specs.declared.design.Design.{Design}
 use Rattle.ldp_design.specs.declared.design_box.DesignBox.{DesignBox}
@@ -11,7 +12,8 @@ use Rattle.ldp_design.specs.Splits.{family_cut}
 use Rattle.ldp_design.proofs.Splits.{singles_end}
 use Rattle.ldp_design.proofs.Wholes.{boxes_are_admitted, singles_have_one}
 use Rattle.ldp_problem.specs.Problem.{Problem, IsSound}
-use Rattle.ldp_problem.specs.Costs.{IsUsable, bound, bound_cell, first_undefined, unusable_at, bound_answer, bound_of}
+use Rattle.ldp_problem.specs.Costs.{IsUsable, bound, bound_cell, first_undefined, unusable_at}
+use Rattle.ldp_problem.specs.Costs.{bound_answer, bound_of}
 use Rattle.ldp_problem.specs.declared.bound.Bound.TheVariants as bounds
 use Rattle.ldp_problem.proofs.Facts.{none_undefined, usable_has_none, single_exact}
 use Rattle.ldp_search.specs.Candidates.{IsCandidate}

@@ -1,5 +1,6 @@
 -- What a search keeps when it takes in the bound of a box.
-use Rattle.std.proofs.Common.{◌≡◌, ◌+◌, ℕ, Bool, true, false, ◌∷◌, Option, None, Some, Result, refl, sym, ap, subst, ◌∙◌}
+use Rattle.std.proofs.Common.{◌≡◌, ◌+◌, ℕ, Bool, true, false, ◌∷◌, Option, None, Some, Result, refl}
+use Rattle.std.proofs.Common.{sym, ap, subst, ◌∙◌}
 use Rattle.std.proofs.lemmas.List.Elements.{All-head}
 use Rattle.std.proofs.lemmas.Result.{on_ok_weaker}
 use Rattle.std.specs.Prelude.{ℤ, unsigned_abs, OnOk, Ok, Err}
@@ -22,7 +23,8 @@ use Rattle.ldp_search.proofs.Bounds.{or_true, below_at_most, below_better}
 use Rattle.ldp_search.proofs.Counts.{nodes_unusable, nodes_closed}
 use Rattle.ldp_search.proofs.Judged.{held_above, better_candidate, stays_beaten, new_beaten}
 use Rattle.ldp_search.proofs.Moves.{explored_closed, explored_kept}
-use Rattle.ldp_search.proofs.Singles.{IsLow, low_pair, low_said, unusable_said, single_is, none_usable, single_candidate}
+use Rattle.ldp_search.proofs.Singles.{IsLow, low_pair, low_said, unusable_said, single_is}
+use Rattle.ldp_search.proofs.Singles.{none_usable, single_candidate}
 
 on_ok : {T E P : Type 0} (r : Result T E) → P → OnOk r P
 on_ok (Ok x) h = h

@@ -1,6 +1,6 @@
--- The tokens of a text: the longest runs of bytes that are no white space and no sign, and each sign
--- alone, each with the place of its first byte. Which bytes are signs is an argument; a byte of white
--- space is no sign.
+-- The tokens of a text: the longest runs of bytes that are no white space and no sign, and each
+-- sign alone, each with the place of its first byte. Which bytes are signs is an argument; a byte
+-- of white space is no sign.
 use Rattle.std.specs.Prelude.{ℕ, ◌+◌, Bool, true, false, ◌||◌, ◌==◌, List, [], ◌∷◌, filter}
 use Rattle.std.specs.Prelude.{if◌then◌else◌}
 use Rattle.std.specs.List.{list_any, position_or_len}
@@ -22,10 +22,11 @@ is_sign signs byte = list_any (λ sign. sign == byte) signs
 -- the first piece, begun one byte earlier
 abbrev pub onto_first : ℕ → ℕ → List Token → List Token
 onto_first place byte [] = record { place = place; bytes = byte ∷ [] } ∷ []
-onto_first place byte (piece ∷ pieces) = record { place = place; bytes = byte ∷ piece.bytes } ∷ pieces
+onto_first place byte (piece ∷ pieces) =
+    record { place = place; bytes = byte ∷ piece.bytes } ∷ pieces
 
--- the signs, and the pieces between them and the bytes of white space, also the empty ones; the text
--- begins at this place
+-- the signs, and the pieces between them and the bytes of white space, also the empty ones; the
+-- text begins at this place
 abbrev pub pieces : List ℕ → ℕ → List ℕ → List Token
 pieces signs place [] = record { place = place; bytes = [] } ∷ []
 pieces signs place (byte ∷ bytes) =
@@ -53,4 +54,5 @@ ends_run signs byte = is_white byte || is_sign signs byte
 -- the length of the token that a text begins with
 abbrev pub token_len : List ℕ → List ℕ → ℕ
 token_len signs [] = 0
-token_len signs (byte ∷ bytes) = if is_sign signs byte then 1 else position_or_len (ends_run signs) (byte ∷ bytes)
+token_len signs (byte ∷ bytes) =
+    if is_sign signs byte then 1 else position_or_len (ends_run signs) (byte ∷ bytes)

@@ -9,6 +9,8 @@ pub loop-value-preserved : goal.loop-value-preserved
 loop-value-preserved c =
     let fits : SFits w128 c.value-item.result.n = search rules in
     let pushed : c.push.new.self.items ≡ c.loop-value.list.items ++ c.value-item.result.n ∷ [] =
-    c.in_ok-push.ensures.items ∙ ap (λ n. c.loop-value.list.items ++ n ∷ []) (to_z-of_z w128 c.value-item.result.n fits) in
-    push_more c.args.list.now.items c.loop-value.list.items c.push.new.self.items c.args.values.now c.loop-value.value-index
+    c.in_ok-push.ensures.items ∙ ap (λ n. c.loop-value.list.items ++ n ∷ [])
+    (to_z-of_z w128 c.value-item.result.n fits) in
+    push_more c.args.list.now.items c.loop-value.list.items c.push.new.self.items c.args.values.now
+    c.loop-value.value-index
     c.value-item.result (omega arith) c.value-item.is pushed c.loop-value.invariant

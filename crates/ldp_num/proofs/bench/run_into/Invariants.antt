@@ -11,5 +11,6 @@ invariant-loop-i g l =
     record {
       room : length l.steps ≤ length l.places;
       fit : StepsFit (length l.inputs) l.i (drop l.i l.steps);
-      rest : results_from ops inputs (map g.N.Num.meaning (take l.i l.places)) (drop l.i l.steps) ≡ results_of ops inputs l.steps;
+      rest : results_from ops inputs (map g.N.Num.meaning (take l.i l.places)) (drop l.i l.steps)
+          ≡ results_of ops inputs l.steps;
     }

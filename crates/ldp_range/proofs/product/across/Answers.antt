@@ -15,8 +15,10 @@ paired-requires-clause-ordered c =
     let p = rw (a, d) at c.mul-3.ensures.value in
     let s = rw (b, e) at c.mul-4.ensures.value in
     rw (c.least_of.ensures.value, c.greatest_of.ensures.value, q, r, p, s)
-    (across-ordered (product c.args.lo c.args.low) (product c.args.lo c.args.high) (product c.args.hi c.args.low) (product c.args.hi c.args.high)
-    (across-below c.args.lo c.args.hi c.args.low c.args.high c.requires.right.ordered c.requires.left_low))
+    (across-ordered (product c.args.lo c.args.low) (product c.args.lo c.args.high)
+    (product c.args.hi c.args.low) (product c.args.hi c.args.high)
+    (across-below c.args.lo c.args.hi c.args.low c.args.high c.requires.right.ordered
+    c.requires.left_low))
 
 pub returns : goal.returns
 returns c =
@@ -29,5 +31,6 @@ returns c =
     let p = rw (a, d) at c.mul-3.ensures.value in
     let s = rw (b, e) at c.mul-4.ensures.value in
     rw (c.paired.ensures, c.least_of.ensures.value, c.greatest_of.ensures.value, q, r, p, s)
-    (across-is c.args.lo c.args.hi c.args.low c.args.high c.requires.left.ordered c.requires.right.ordered c.requires.left_low c.requires.left_high
+    (across-is c.args.lo c.args.hi c.args.low c.args.high c.requires.left.ordered
+    c.requires.right.ordered c.requires.left_low c.requires.left_high
     c.requires.right_low c.requires.right_high)

@@ -16,7 +16,9 @@ paired-requires-clause-ordered c =
     let s = rw (a, d, e) at c.by_sign.ensures.value in
     let t = rw (b, d, e) at c.by_sign-2.ensures.value in
     rw (first, last, s, t)
-    (number-ordered _ _ (scaled-ordered c.args.lo c.args.hi c.args.low c.args.high c.requires.left.ordered c.requires.right.ordered c.requires.sign))
+    (number-ordered _ _
+    (scaled-ordered c.args.lo c.args.hi c.args.low c.args.high c.requires.left.ordered
+    c.requires.right.ordered c.requires.sign))
 
 pub returns : goal.returns
 returns c =
@@ -31,4 +33,5 @@ returns c =
     let s = rw (a, d, e) at c.by_sign.ensures.value in
     let t = rw (b, d, e) at c.by_sign-2.ensures.value in
     rw (c.paired.ensures, first, last, s, t)
-    (scaled-is c.args.lo c.args.hi c.args.low c.args.high c.requires.left.ordered c.requires.right.ordered c.requires.sign)
+    (scaled-is c.args.lo c.args.hi c.args.low c.args.high c.requires.left.ordered
+    c.requires.right.ordered c.requires.sign)

@@ -14,7 +14,9 @@ paired-requires-clause-ordered c =
     let last = rw (a, d) at c.mul-2.ensures.value in
     let s = rw (b, d, e) at c.by_sign.ensures.value in
     rw (first, last, s)
-    (number-ordered _ _ (turned-ordered c.args.lo c.args.hi c.args.low c.args.high c.requires.left.ordered c.requires.right.ordered c.requires.left_sign c.requires.right_sign))
+    (number-ordered _ _
+    (turned-ordered c.args.lo c.args.hi c.args.low c.args.high c.requires.left.ordered
+    c.requires.right.ordered c.requires.left_sign c.requires.right_sign))
 
 pub returns : goal.returns
 returns c =
@@ -27,4 +29,5 @@ returns c =
     let last = rw (a, d) at c.mul-2.ensures.value in
     let s = rw (b, d, e) at c.by_sign.ensures.value in
     rw (c.paired.ensures, first, last, s)
-    (turned-is c.args.lo c.args.hi c.args.low c.args.high c.requires.left.ordered c.requires.right.ordered c.requires.left_sign c.requires.right_sign)
+    (turned-is c.args.lo c.args.hi c.args.low c.args.high c.requires.left.ordered
+    c.requires.right.ordered c.requires.left_sign c.requires.right_sign)

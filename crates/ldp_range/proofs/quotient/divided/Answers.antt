@@ -15,7 +15,8 @@ paired-requires-clause-ordered c =
     let s = rw (a, d, e) at c.by_sign.ensures.value in
     let t = rw (b, d, e) at c.by_sign-2.ensures.value in
     rw (first, last, s, t)
-    (divided-ordered c.args.lo c.args.hi c.args.low c.args.high c.requires.left.ordered c.requires.right.ordered c.requires.sign)
+    (divided-ordered c.args.lo c.args.hi c.args.low c.args.high c.requires.left.ordered
+    c.requires.right.ordered c.requires.sign)
 
 pub returns : goal.returns
 returns c =
@@ -30,4 +31,5 @@ returns c =
     let s = rw (a, d, e) at c.by_sign.ensures.value in
     let t = rw (b, d, e) at c.by_sign-2.ensures.value in
     rw (c.paired.ensures, first, last, s, t)
-    (divided-is c.args.lo c.args.hi c.args.low c.args.high c.requires.left.ordered c.requires.right.ordered c.requires.sign)
+    (divided-is c.args.lo c.args.hi c.args.low c.args.high c.requires.left.ordered
+    c.requires.right.ordered c.requires.sign)

@@ -11,9 +11,13 @@ invariant_of-result c =
     let e = number-passed c.y.inside.hi c.y.invariant.high_number in
     let low = rw (a, d) at c.greater.ensures.value in
     let high = rw (b, e) at c.greater-2.ensures.value in
-    rw (number-passed c.greater.result c.greater.ensures.number, number-passed c.greater-2.result c.greater-2.ensures.number)
+    rw (
+      number-passed c.greater.result c.greater.ensures.number,
+      number-passed c.greater-2.result c.greater-2.ensures.number,
+    )
     (record {
       low_number = c.greater.ensures.number;
       high_number = c.greater-2.ensures.number;
-      ordered = omega (arith, ints, clamps, low, high, c.x.invariant.ordered, c.y.invariant.ordered);
+      ordered = omega
+          (arith, ints, clamps, low, high, c.x.invariant.ordered, c.y.invariant.ordered);
     })

@@ -11,9 +11,13 @@ invariant_of-result c =
     let e = number-passed c.y.inside.hi c.y.invariant.high_number in
     let low = rw (a, d) at c.lesser.ensures.value in
     let high = rw (b, e) at c.lesser-2.ensures.value in
-    rw (number-passed c.lesser.result c.lesser.ensures.number, number-passed c.lesser-2.result c.lesser-2.ensures.number)
+    rw (
+      number-passed c.lesser.result c.lesser.ensures.number,
+      number-passed c.lesser-2.result c.lesser-2.ensures.number,
+    )
     (record {
       low_number = c.lesser.ensures.number;
       high_number = c.lesser-2.ensures.number;
-      ordered = omega (arith, ints, clamps, low, high, c.x.invariant.ordered, c.y.invariant.ordered);
+      ordered = omega
+          (arith, ints, clamps, low, high, c.x.invariant.ordered, c.y.invariant.ordered);
     })

@@ -1,6 +1,7 @@
 use Rattle.std.proofs.Common.{◌≤◌, arith, ap, ◌∙◌}
 use Rattle.ldp_optimum.specs.Forest.{forest}
-use Rattle.ldp_search.proofs.Answered.{none_usable, smallest_found, first_found, shape_found, usable_found}
+use Rattle.ldp_search.proofs.Answered.{none_usable, smallest_found, first_found, shape_found}
+use Rattle.ldp_search.proofs.Answered.{usable_found}
 use Rattle.ldp_search.proofs.best_first.search.Goals as goal
 
 pub returns-in_default-clause-none : goal.returns-in_default-clause-none
@@ -29,7 +30,8 @@ returns-clause-first g c =
 pub returns-clause-shape : goal.returns-clause-shape
 returns-clause-shape g c =
     let p = g.B.Bounds.problem c.args.bounds.now in
-    let within : c.explore.new.state.evaluated ≤ c.args.budget = omega (arith, c.explore.ensures.within) in
+    let within : c.explore.new.state.evaluated ≤ c.args.budget =
+    omega (arith, c.explore.ensures.within) in
     rw c.found.ensures (shape_found p c.explore.new.state c.in-Some.best
     c.in_ok-explore.ensures.done c.in-Some.is
     c.args.budget c.in_ok-forest.forest within c.requires.few

@@ -8,12 +8,14 @@ use Rattle.ldp_distortion.proofs.prepared.Prepared.joined.Goals as goal
 
 pub returns-in_err-distortion-clause-distortion : goal.returns-in_err-distortion-clause-distortion
 returns-in_err-distortion-clause-distortion c =
-    plain_at c.args.self.now c.args.inputs.now c.args.cell None c.requires.cell c.in_err-distortion.ensures.distortion
+    plain_at c.args.self.now c.args.inputs.now c.args.cell None c.requires.cell
+    c.in_err-distortion.ensures.distortion
     ∙ ap Some (sym c.from_residual.ensures)
 
 pub returns-clause-distortion : goal.returns-clause-distortion
 returns-clause-distortion c =
     let fits : SFits w128 c.in_ok-distortion.distortion.n = search rules in
-    plain_at c.args.self.now c.args.inputs.now c.args.cell (Some c.in_ok-distortion.distortion) c.requires.cell
+    plain_at c.args.self.now c.args.inputs.now c.args.cell (Some c.in_ok-distortion.distortion)
+    c.requires.cell
     c.in_ok-distortion.ensures.distortion
     ∙ ap (λ (z : ℤ). Some (Some z)) (sym (to_z-of_z w128 c.in_ok-distortion.distortion.n fits))

@@ -5,5 +5,6 @@ use Rattle.ldp_distortion.proofs.prepared.Prepared.new.Goals as goal
 
 pub returns-clause-distortions : goal.returns-clause-distortions
 returns-clause-distortions c = λ at.
-    ap (λ rows. distortions_of (record { lists = c.args.lists; results = rows }) at) c.in_ok-table.ensures.rows
+    ap (λ rows. distortions_of (record { lists = c.args.lists; results = rows }) at)
+    c.in_ok-table.ensures.rows
     ∙ prepared_distortions c.args.lists c.args.cells.now.cells at

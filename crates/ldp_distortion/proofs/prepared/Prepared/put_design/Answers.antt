@@ -17,10 +17,12 @@ returns-clause-design c =
     let count : length front ≡ length design.outs =
     omega (arith, outs, c.run_into.auto.results, c.split_at_mut-design.ensures.front_len) in
     let own : take (length design.outs) (front ++ back) ≡ front =
-    take-append-le (length design.outs) front back (omega arith) ∙ take_all (length design.outs) front (omega arith) in
+    take-append-le (length design.outs) front back (omega arith) ∙ take_all (length design.outs)
+    front (omega arith) in
     let P : PreparedCells → Type 0 =
     λ p. value p.lists.design (inputs_of_design c.args.at.now)
-    ≡ (if c.run_into.result then Some (numbers (take (length p.lists.design.outs) (front ++ back))) else None) in
+    ≡ (if c.run_into.result then Some (numbers (take (length p.lists.design.outs) (front ++ back)))
+    else None) in
     subst P c.self.view_is
     (ap (value design) (sym c.design_inputs.ensures)
     ∙ run_numbers design c.design_inputs.result c.run_into.result front c.run_into.ensures.value

@@ -19,8 +19,10 @@ returns-then-not-put_design-clause-usable c =
 pub returns-clause-usable : goal.returns-clause-usable
 returns-clause-usable c =
     value_where_usable c.worst_from.result (distortions_of c.args.self.now c.args.at)
-    (c.worst_from.ensures.worst ∙ ap worst_of (with_design c.args.self.now c.args.at _ c.if-not-put_design.ensures.design))
+    (c.worst_from.ensures.worst
+    ∙ ap worst_of (with_design c.args.self.now c.args.at _ c.if-not-put_design.ensures.design))
 
 pub returns-clause-worst : goal.returns-clause-worst
 returns-clause-worst c =
-    c.worst_from.ensures.worst ∙ ap worst_of (with_design c.args.self.now c.args.at _ c.if-not-put_design.ensures.design)
+    c.worst_from.ensures.worst
+    ∙ ap worst_of (with_design c.args.self.now c.args.at _ c.if-not-put_design.ensures.design)

@@ -15,32 +15,47 @@ pub loop-cell-preserved : goal.loop-cell-preserved
 loop-cell-preserved c =
     let so_far = c.loop-cell.invariant in
     let row = numbers c.run_into.new.results in
-    let in_row : length row ≡ length c.run_into.new.results = length-map c.run_into.new.results (λ (one : Fix). one.n) in
-    let outs : length c.outs-width.result.now ≡ length c.args.list.now.outs = ap length c.outs-width.ensures.outs in
-    let width : length row ≡ length c.outs-width.result.now = omega (arith, length-take {A = Fix}) in
-    let is_row : cell_results c.args.list.now c.get.result ≡ (if c.run_into.result then Some row else None) =
+    let in_row : length row ≡ length c.run_into.new.results =
+    length-map c.run_into.new.results (λ (one : Fix). one.n) in
+    let outs : length c.outs-width.result.now ≡ length c.args.list.now.outs =
+    ap length c.outs-width.ensures.outs in
+    let width : length row ≡ length c.outs-width.result.now =
+    omega (arith, length-take {A = Fix}) in
+    let is_row : cell_results c.args.list.now c.get.result
+    ≡ (if c.run_into.result then Some row else None) =
     ap (value c.args.list.now) (sym c.cell_inputs-inputs.ensures) ∙ c.run_into.ensures.value in
-    let flags : c.push.new.self.items ≡ c.loop-cell.defined.items ++ c.run_into.result ∷ [] = c.in_ok-push.ensures.items in
-    let flagged : length (c.loop-cell.defined.items ++ c.run_into.result ∷ []) ≡ length c.loop-cell.defined.items + 1 =
+    let flags : c.push.new.self.items ≡ c.loop-cell.defined.items ++ c.run_into.result ∷ [] =
+    c.in_ok-push.ensures.items in
+    let flagged : length (c.loop-cell.defined.items ++ c.run_into.result ∷ [])
+    ≡ length c.loop-cell.defined.items + 1 =
     length_push c.loop-cell.defined.items c.run_into.result in
-    let all : c.push_numbers.new.list.items ≡ c.loop-cell.numbers.items ++ row = c.in_ok-push_numbers.ensures in
-    let filled : length (c.loop-cell.numbers.items ++ row) ≡ length c.loop-cell.numbers.items + length row =
+    let all : c.push_numbers.new.list.items ≡ c.loop-cell.numbers.items ++ row =
+    c.in_ok-push_numbers.ensures in
+    let filled : length (c.loop-cell.numbers.items ++ row) ≡ length c.loop-cell.numbers.items
+    + length row =
     length-append c.loop-cell.numbers.items row in
     record {
       ready = c.run_into.ensures.ready;
       count = ap length flags ∙ flagged ∙ ap (λ n. n + 1) so_far.count;
       full = ap length all ∙ omega arith;
-      in_range = rw all (All-append IsNumber c.loop-cell.numbers.items row so_far.in_range (numbers_all c.run_into.new.results));
+      in_range = rw all
+          (All-append IsNumber c.loop-cell.numbers.items row so_far.in_range
+          (numbers_all c.run_into.new.results));
       rows = rw (flags, all)
-          (rows_more (cell_results c.args.list.now) c.args.cells.now.cells (length c.outs-width.result.now) c.loop-cell.defined.items
-          c.loop-cell.numbers.items c.loop-cell.cell c.get.result c.run_into.result row so_far.count so_far.full width c.get.ensures.value
+          (rows_more (cell_results c.args.list.now) c.args.cells.now.cells
+          (length c.outs-width.result.now) c.loop-cell.defined.items
+          c.loop-cell.numbers.items c.loop-cell.cell c.get.result c.run_into.result row so_far.count
+          so_far.full width c.get.ensures.value
           is_row so_far.rows);
     }
 
 pub returns-clause-full : goal.returns-clause-full
 returns-clause-full c =
     let so_far = c.loop-cell.invariant in
-    let outs : length c.outs-width.result.now ≡ length c.args.list.now.outs = ap length c.outs-width.ensures.outs in
-    let filled : length c.loop-cell.numbers.items ≡ length c.outs-width.result.now * length c.loop-cell.defined.items =
+    let outs : length c.outs-width.result.now ≡ length c.args.list.now.outs =
+    ap length c.outs-width.ensures.outs in
+    let filled : length c.loop-cell.numbers.items ≡ length c.outs-width.result.now * length
+    c.loop-cell.defined.items =
     so_far.full ∙ ap (λ n. length c.outs-width.result.now * n) (sym so_far.count) in
-    rw (← outs) (full_rows (length c.outs-width.result.now) c.loop-cell.defined.items c.loop-cell.numbers.items filled so_far.in_range)
+    rw (← outs) (full_rows (length c.outs-width.result.now) c.loop-cell.defined.items
+    c.loop-cell.numbers.items filled so_far.in_range)

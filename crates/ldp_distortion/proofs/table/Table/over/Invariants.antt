@@ -12,5 +12,6 @@ invariant-loop-cell l = record {
   count : length l.defined.items ≡ l.cell;
   full : length l.numbers.items ≡ l.width * l.cell;
   in_range : All IsNumber l.numbers.items;
-  rows : rows l.width l.defined.items l.numbers.items ≡ map (cell_results l.list) (take l.cell l.cells.cells);
+  rows : rows l.width l.defined.items l.numbers.items ≡ map (cell_results l.list)
+      (take l.cell l.cells.cells);
 }

@@ -13,4 +13,5 @@ paired-requires-clause-ordered c =
     let first = rw (a, d) at c.add.ensures.value in
     let last = rw (b, e) at c.add-2.ensures.value in
     rw (first, last)
-    (number-ordered (c.self.inside.lo +ℤ c.other.inside.lo) (c.self.inside.hi +ℤ c.other.inside.hi) (omega (arith, ints)))
+    (number-ordered (c.self.inside.lo +ℤ c.other.inside.lo) (c.self.inside.hi +ℤ c.other.inside.hi)
+    (omega (arith, ints)))

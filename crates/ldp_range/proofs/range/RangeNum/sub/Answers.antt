@@ -13,4 +13,5 @@ paired-requires-clause-ordered c =
     let first = rw (a, e) at c.sub.ensures.value in
     let last = rw (b, d) at c.sub-2.ensures.value in
     rw (first, last)
-    (number-ordered (c.self.inside.lo -ℤ c.other.inside.hi) (c.self.inside.hi -ℤ c.other.inside.lo) (omega (arith, ints)))
+    (number-ordered (c.self.inside.lo -ℤ c.other.inside.hi) (c.self.inside.hi -ℤ c.other.inside.lo)
+    (omega (arith, ints)))
