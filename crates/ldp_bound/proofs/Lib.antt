@@ -1,10 +1,11 @@
-mod Tallies
-mod Families
-mod Runs
-pub mod Carriers
-pub mod Sound
 mod Cells
+mod Families
 mod Kepts
 mod Loops
-mod Told
+mod Runs
+mod Stays
 mod Sweeps
+mod Tallies
+mod Told
+pub mod Carriers
+pub mod Sound

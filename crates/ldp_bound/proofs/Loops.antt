@@ -83,7 +83,8 @@ unusable_at tolerance sizes count cell within defined here =
     rw found refl
 
 -- where each is defined, none is undefined
-pub all_defined : (f : ℕ → ℕ) (count : ℕ) → position is_none (at_cells (λ k. Some (f k)) count) ≡ None
+pub all_defined : (f : ℕ → ℕ) (count : ℕ) → position is_none (at_cells (λ k. Some (f k)) count)
+    ≡ None
 all_defined f count =
     let values : List (Option ℕ) = at_cells (λ k. Some (f k)) count in
     let all : length values ≡ count = length-at_cells (λ k. Some (f k)) count in

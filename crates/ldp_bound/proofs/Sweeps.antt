@@ -1,16 +1,19 @@
 -- What is told over the stretches of the cells.
-use Rattle.std.proofs.Common.{◌≡◌, ◌≤◌, ◌<◌, ◌+◌, ℕ, zero, suc, ℤ, pos, Bool, true, false, List, [], ◌∷◌, map, take, length, arith, rules, refl, sym, ap, subst, ◌∙◌}
+use Rattle.std.proofs.Common.{◌≡◌, ◌≤◌, ◌<◌, ℕ, ℤ, pos, List, [], ◌∷◌, map, take, length, rules}
+use Rattle.std.proofs.Common.{refl, sym, ap, subst, ◌∙◌}
 use Rattle.std.proofs.lemmas.Option.{same_Some, none-some}
-use Rattle.std.specs.Prelude.{Option, None, Some, IsSome, option_map, slice_get, position, unsigned_abs, unwrap_or}
-use Rattle.std.specs.Option.{is_none}
+use Rattle.std.specs.Prelude.{Option, None, Some, IsSome, option_map, slice_get, unsigned_abs}
+use Rattle.std.specs.Prelude.{unwrap_or}
+use Rattle.std.specs.Int.Signed.{≤ℤ_refl}
 use Rattle.ldp_num.specs.Twins.{TwinPair}
 use Rattle.ldp_num.specs.Written.{number_ops, range_ops}
 use Rattle.ldp_num.specs.declared.fix.Fix.{Fix}
 use Rattle.ldp_range.specs.Range.{twice, pair_low_abs}
+use Rattle.ldp_range.proofs.Bounds.{own}
 use Rattle.ldp_range.proofs.Ends.{absolute-of_one}
 use Rattle.ldp_distortion.specs.Prepared.{PreparedCells, joined_at}
 use Rattle.ldp_distortion.specs.Inputs.{numbers}
-use Rattle.ldp_problem.specs.Costs.{at_cells, beyond, largest, first_largest, tally, cost_answer}
+use Rattle.ldp_problem.specs.Costs.{at_cells, first_largest, tally, cost_answer}
 use Rattle.ldp_problem.specs.declared.cost.Cost.{Cost}
 use Rattle.ldp_problem.specs.declared.cost.Cost.TheVariants as costs
 use Rattle.ldp_sweep.specs.declared.node.Node.{Node}
@@ -19,7 +22,7 @@ use Rattle.ldp_sweep.specs.declared.span.Span.{Span}
 use Rattle.ldp_sweep.specs.Cut.{IsWithin}
 use Rattle.ldp_sweep.specs.Tally.{over_of, peak_of, undefined_of}
 use Rattle.ldp_stretch.specs.Spans.{IsSpanned, SpansAt}
-use Rattle.ldp_stretch.specs.Twins.{StandForRanges, StandForNumbers}
+use Rattle.ldp_stretch.specs.Twins.{number_twins, StandForRanges}
 use Rattle.ldp_bound.specs.declared.tally.Tally.{Tally}
 use Rattle.ldp_design.specs.declared.family.Family.{Family}
 use Rattle.ldp_design.specs.declared.design.Design.{Design}
@@ -60,7 +63,8 @@ design_told sizes tolerance count over peak counts top none =
     let values : List ℕ = at_cells (λ cell. unwrap_or (sizes cell) 0) count in
     same_cost over _ peak.value _ peak.cell _ counts (ap (λ (p : Peak). p.value) top)
     (ap (λ (p : Peak). p.cell) top)
-    ∙ ap (λ (o : Option ℕ). cost_answer o (tally tolerance values) (first_largest values)) (sym none)
+    ∙ ap (λ (o : Option ℕ). cost_answer o (tally tolerance values) (first_largest values))
+    (sym none)
 
 pub design_undefined : (sizes : ℕ → Option ℕ) (tolerance : Option ℕ) (count cell : ℕ)
     → undefined_of sizes count ≡ Some cell
@@ -85,12 +89,11 @@ box_within p design twins nodes at span held spans node found = record {
       subst (λ (o : Option (ℤ × ℤ)). least_size o ≤ span.high) (sym spanned.is) spanned.high;
 }
 
-numbers_stand : (fixes : List Fix) (twins : List TwinPair) → StandForNumbers fixes twins
-    → StandForRanges (map twice (numbers fixes)) twins
-numbers_stand [] [] h = tt
-numbers_stand [] (t ∷ twins) h = absurd h
-numbers_stand (x ∷ fixes) [] h = absurd h
-numbers_stand (x ∷ fixes) (t ∷ twins) h = (h.0, numbers_stand fixes twins h.1)
+-- the twins of numbers stand for these as ranges
+numbers_stand : (design : List Fix)
+    → StandForRanges (map twice (numbers design)) (number_twins design)
+numbers_stand [] = tt
+numbers_stand (x ∷ design) = (own (twice x.n) (≤ℤ_refl x.n), numbers_stand design)
 
 -- the absolute value of a number whose range is spanned
 record IsSized (found : Option ℤ) (span : Span) : Type 0 where
@@ -113,22 +116,25 @@ sized (Some n) span spanned =
     }
 
 pub design_within : (p : PreparedCells) (design : List Fix) (twins : List TwinPair)
-    (nodes : List Node) (at : ℕ) (span : Span) → StandForNumbers design twins
+    (nodes : List Node) (at : ℕ) (span : Span) → twins ≡ number_twins design
     → SpansAt p twins nodes at span → (node : Node) → slice_get nodes at ≡ Some node
     → IsWithin (size_from p (numbers design)) node.from node.to span
-design_within p design twins nodes at span held spans node found = record {
+design_within p design twins nodes at span twin spans node found = record {
   defined = λ cell from to. (at_one cell from to).defined;
   low = λ cell from to. (at_one cell from to).low;
   high = λ cell from to. (at_one cell from to).high;
 }
   where
+    stand : StandForRanges (map twice (numbers design)) twins
+    stand = subst (StandForRanges (map twice (numbers design))) (sym twin) (numbers_stand design)
+
     at_one : (cell : ℕ) → node.from ≤ cell → cell < node.to
         → IsSized (joined_at number_ops p (numbers design) cell) span
     at_one cell from to =
         sized (joined_at number_ops p (numbers design) cell) span
         (subst (λ (o : Option (ℤ × ℤ)). IsSpanned o span)
         (at_mapped twice number_ops range_ops twice_maps p (numbers design) cell)
-        (spans node found (map twice (numbers design)) cell (numbers_stand design twins held) from to))
+        (spans node found (map twice (numbers design)) cell stand from to))
 
 -- from the results of the design list, wherever the prepared cells were read
 pub same_lows : (families : List Family) (kinds : PreparedKinds) (b : DesignBox)
@@ -153,8 +159,8 @@ pub swept_lows : (f : ℕ → ℕ) (p cells : PreparedCells) (design front : Lis
     → told ≡ tally_of tolerance (at_cells f count)
 swept_lows f p cells design front n count tolerance told e h k l m = e ∙ rw (h, k, l, m) refl
 
-pub swept_sizes : (f : ℕ → Option ℕ) (p cells : PreparedCells) (design front : List Fix) (n count : ℕ)
-    (tolerance : Option ℕ) (told : Cost)
+pub swept_sizes : (f : ℕ → Option ℕ) (p cells : PreparedCells) (design front : List Fix)
+    (n count : ℕ) (tolerance : Option ℕ) (told : Cost)
     → told ≡ cost_over tolerance (size_from cells (numbers design)) n
     → cells ≡ p → n ≡ count → design ≡ front → f ≡ size_from p (numbers front)
     → told ≡ cost_over tolerance f count

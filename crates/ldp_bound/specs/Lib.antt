@@ -1,6 +1,8 @@
-pub mod Kinds
-pub mod Plain
+pub mod DesignRuns
 pub mod Kept
-pub mod Tally
+pub mod KindCells
+pub mod Kinds
 pub mod Laws
+pub mod Plain
 pub mod Sweeps
+pub mod Tally

@@ -2,40 +2,38 @@ ghost use Rattle.std.specs.Prelude.{◌≡◌, ◌≤◌, length};
 
 use crate::inputs::MOST_INPUTS;
 use crate::lows::low_at;
-use ldp_distortion::Prepared;
-use ldp_num::{Bench, Num};
+use ldp_num::Bench;
 use ldp_range::{Range, Twin};
-use ldp_stretch::{Stretched, Stretches, put_ranges, span_at};
+use ldp_stretch::{Stretched, TwinSpans};
 use ldp_sweep::{Node, Span, Sweep};
 use std::marker::Model;
 
 /// The least absolute distortion of a box at the cells and over their stretches.
 #[derive(Drop)]
 pub struct BoxSweep<'a> {
-    prepared: &'a Prepared,
-    stretches: &'a Stretches,
+    spans: TwinSpans<'a>,
     count: u32,
-    ranges: Bench<Range>,
-    twins: Bench<Twin>,
+    bench: Bench<Range>,
     inputs: [Range; MOST_INPUTS],
-    twin_inputs: [Twin; MOST_INPUTS],
 }
 
 impl<'a> Model for BoxSweep<'a> {
-    ghost use Rattle.ldp_bound.specs.Sweeps.{SweptBox, IsSweep, HasRanges, front};
+    ghost use Rattle.std.specs.Prelude.{ℤ, length};
+    ghost use Rattle.ldp_stretch.specs.Twins.{StandForRanges};
+    ghost use Rattle.ldp_bound.specs.Sweeps.{Swept, IsSweep, front};
 
-    ghost Value = { SweptBox };
+    ghost Value = { Swept (ℤ × ℤ) };
 
     ghost view = { λ s. record {
-      cells = s.prepared.now;
+      cells = s.spans.cells;
       count = s.count;
-      nodes = s.stretches.now.nodes.items;
-      design = front s.prepared.now s.inputs;
+      nodes = s.spans.nodes;
+      design = front s.spans.cells s.inputs;
     } };
 
     ghost invariant = { λ s.
-        IsSweep s.prepared.now s.stretches.now s.count s.ranges.room s.twins.room
-        × HasRanges s.prepared.now s.inputs s.twin_inputs };
+        IsSweep s.spans.cells s.count s.bench.room (length s.inputs)
+        × StandForRanges (front s.spans.cells s.inputs) s.spans.twins };
 }
 
 impl<'a> BoxSweep<'a> {
@@ -60,19 +58,12 @@ impl<'a> BoxSweep<'a> {
         ensures cut { IsCut result.count result.nodes }
         ensures design { result.design ≡ front stretched.now inputs }
     {
-        let prepared = stretched.prepared();
-        let stretches = stretched.stretches();
-        let mut twin_inputs = [Twin::constant(0); MOST_INPUTS];
-        let results = prepared.lists().design.outs().len();
-        put_ranges(&inputs[..results], &mut twin_inputs[..results]);
+        let results = stretched.prepared().lists().design.outs().len();
         BoxSweep {
-            prepared,
-            stretches,
+            spans: TwinSpans::of_box(stretched, twins, &inputs[..results]),
             count,
-            ranges,
-            twins,
+            bench: ranges,
             inputs,
-            twin_inputs,
         }
     }
 
@@ -81,8 +72,8 @@ impl<'a> BoxSweep<'a> {
         ensures ranges { result.0.room ≡ most_steps }
         ensures twins { result.1.room ≡ most_steps }
     {
-        let BoxSweep { ranges, twins, .. } = self;
-        (ranges, twins)
+        let BoxSweep { spans, bench, .. } = self;
+        (bench, spans.into_bench())
     }
 }
 
@@ -96,20 +87,15 @@ impl<'a> Sweep for BoxSweep<'a> {
     }
 
     fn nodes(&self) -> &[Node] {
-        self.stretches.nodes()
+        self.spans.nodes()
     }
 
     fn value(&mut self, cell: u32) -> Option<u128> {
-        Some(low_at(self.prepared, &mut self.ranges, &mut self.inputs, cell))
+        let prepared = self.spans.prepared();
+        Some(low_at(prepared, &mut self.bench, &mut self.inputs, cell))
     }
 
     fn span(&mut self, at: usize) -> Option<Span> {
-        span_at(
-            self.prepared,
-            self.stretches,
-            &mut self.twins,
-            &mut self.twin_inputs,
-            at,
-        )
+        self.spans.span(at)
     }
 }

@@ -1,8 +1,8 @@
 ghost use Rattle.std.specs.Prelude.{◌≡◌, ◌<◌, ◌≤ℤ◌, pos, length, IfOk, IfSome, option_map};
 ghost use Rattle.std.specs.Prelude.{unsigned_abs};
-ghost use Rattle.ldp_num.specs.Steps.{most_steps};
 
 use crate::Memory;
+use crate::benches::Benches;
 use crate::kept::Kept;
 use crate::lows::{low, lows};
 use crate::single::{bound_of_single, first_of};
@@ -11,20 +11,16 @@ use crate::tally::signed;
 use crate::tolerance::{signed_units, units};
 use ldp_cells::Cells;
 use ldp_design::{Design, DesignBox, Grids, is_single};
-use ldp_num::{Bench, Fix, MOST_STEPS};
 use ldp_problem::{Bound, Bounds, Cost};
-use ldp_range::Range;
 use std::alloc::Global;
 
-/// The same bounder as `Plain`, which looks at every cell in every call.
+/// The same bounder as `Plain` in the definition's own way: it looks at every cell in every call.
+/// It is there to compare answers and times with.
 #[derive(Drop)]
 pub struct CellByCell {
     kept: Kept,
-    numbers: Bench<Fix>,
-    ranges: Bench<Range>,
+    benches: Benches,
     asked: u64,
-    ghost numbers_room: { numbers.room ≡ most_steps },
-    ghost ranges_room: { ranges.room ≡ most_steps },
 }
 
 impl CellByCell {
@@ -45,12 +41,10 @@ impl CellByCell {
         ensures asked { IfOk result (λ bounder. ⟦<CellByCell as Bounds>⟧.times bounder ≡ 0) }
     {
         let kept = Kept::new(alloc, grids, cells, units(tolerance))?;
-        let numbers = Bench::with_room(alloc, MOST_STEPS)?;
-        let ranges = Bench::with_room(alloc, MOST_STEPS)?;
+        let benches = Benches::new(alloc)?;
         Ok(CellByCell {
             kept,
-            numbers,
-            ranges,
+            benches,
             asked: 0,
         })
     }
@@ -78,31 +72,33 @@ impl Bounds for CellByCell {
     fn bound(&mut self, b: &DesignBox) -> Bound {
         self.asked = self.asked.saturating_add(1);
         if is_single(b) {
-            let cost = cost(&self.kept, &mut self.numbers, &first_of(b));
+            let cost = cost(&self.kept, &mut self.benches, &first_of(b));
             return bound_of_single(cost);
         }
-        lows(&self.kept, &mut self.ranges, b).bound()
+        lows(&self.kept, &mut self.benches, b).bound()
     }
 
     fn lower(&mut self, b: &DesignBox, cell: u32) -> i128 {
         self.asked = self.asked.saturating_add(1);
-        signed(low(&self.kept, &mut self.ranges, b, cell))
+        signed(low(&self.kept, &mut self.benches, b, cell))
     }
 
     fn defined(&mut self, d: &Design, cell: u32) -> bool {
         self.asked = self.asked.saturating_add(1);
-        size(&self.kept, &mut self.numbers, d, cell).is_some()
+        size(&self.kept, &mut self.benches, d, cell).is_some()
     }
 
     fn cost(&mut self, d: &Design) -> Cost
         requires { IsAdmitted (⟦<CellByCell as Bounds>⟧.problem self.old).families d.now }
         ensures value { result ≡ cost_of (⟦<CellByCell as Bounds>⟧.problem self.old) d.now }
         ensures number { HasNumber result }
-        ensures same { ⟦<CellByCell as Bounds>⟧.problem self.new ≡ ⟦<CellByCell as Bounds>⟧.problem self.old }
-        ensures asked { ⟦<CellByCell as Bounds>⟧.times self.new ≡ count_up (⟦<CellByCell as Bounds>⟧.times self.old) }
+        ensures same { ⟦<CellByCell as Bounds>⟧.problem self.new
+            ≡ ⟦<CellByCell as Bounds>⟧.problem self.old }
+        ensures asked { ⟦<CellByCell as Bounds>⟧.times self.new
+            ≡ count_up (⟦<CellByCell as Bounds>⟧.times self.old) }
     {
         self.asked = self.asked.saturating_add(1);
-        cost(&self.kept, &mut self.numbers, d)
+        cost(&self.kept, &mut self.benches, d)
     }
 
     fn asked(&self) -> u64 {

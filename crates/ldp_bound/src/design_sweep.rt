@@ -2,40 +2,39 @@ ghost use Rattle.std.specs.Prelude.{◌≡◌, ◌≤◌, length};
 
 use crate::inputs::MOST_INPUTS;
 use crate::sizes::size_at;
-use ldp_distortion::Prepared;
-use ldp_num::{Bench, Fix, Num};
+use ldp_num::{Bench, Fix};
 use ldp_range::Twin;
-use ldp_stretch::{Stretched, Stretches, put_numbers, span_at};
+use ldp_stretch::{Stretched, TwinSpans};
 use ldp_sweep::{Node, Span, Sweep};
 use std::marker::Model;
 
 /// The absolute distortion of a design at the cells and over their stretches.
 #[derive(Drop)]
 pub struct DesignSweep<'a> {
-    prepared: &'a Prepared,
-    stretches: &'a Stretches,
+    spans: TwinSpans<'a>,
     count: u32,
-    numbers: Bench<Fix>,
-    twins: Bench<Twin>,
+    bench: Bench<Fix>,
     inputs: [Fix; MOST_INPUTS],
-    twin_inputs: [Twin; MOST_INPUTS],
 }
 
 impl<'a> Model for DesignSweep<'a> {
-    ghost use Rattle.ldp_bound.specs.Sweeps.{SweptDesign, IsSweep, HasNumbers, front};
+    ghost use Rattle.std.specs.Prelude.{◌≡◌, length};
+    ghost use Rattle.ldp_num.specs.declared.fix.Fix.{Fix};
+    ghost use Rattle.ldp_stretch.specs.Twins.{number_twins};
+    ghost use Rattle.ldp_bound.specs.Sweeps.{Swept, IsSweep, front};
 
-    ghost Value = { SweptDesign };
+    ghost Value = { Swept Fix };
 
     ghost view = { λ s. record {
-      cells = s.prepared.now;
+      cells = s.spans.cells;
       count = s.count;
-      nodes = s.stretches.now.nodes.items;
-      design = front s.prepared.now s.inputs;
+      nodes = s.spans.nodes;
+      design = front s.spans.cells s.inputs;
     } };
 
     ghost invariant = { λ s.
-        IsSweep s.prepared.now s.stretches.now s.count s.numbers.room s.twins.room
-        × HasNumbers s.prepared.now s.inputs s.twin_inputs };
+        IsSweep s.spans.cells s.count s.bench.room (length s.inputs)
+        × (s.spans.twins ≡ number_twins (front s.spans.cells s.inputs)) };
 }
 
 impl<'a> DesignSweep<'a> {
@@ -60,19 +59,12 @@ impl<'a> DesignSweep<'a> {
         ensures cut { IsCut result.count result.nodes }
         ensures design { result.design ≡ front stretched.now inputs }
     {
-        let prepared = stretched.prepared();
-        let stretches = stretched.stretches();
-        let mut twin_inputs = [Twin::constant(0); MOST_INPUTS];
-        let results = prepared.lists().design.outs().len();
-        put_numbers(&inputs[..results], &mut twin_inputs[..results]);
+        let results = stretched.prepared().lists().design.outs().len();
         DesignSweep {
-            prepared,
-            stretches,
+            spans: TwinSpans::of_design(stretched, twins, &inputs[..results]),
             count,
-            numbers,
-            twins,
+            bench: numbers,
             inputs,
-            twin_inputs,
         }
     }
 
@@ -81,8 +73,8 @@ impl<'a> DesignSweep<'a> {
         ensures numbers { result.0.room ≡ most_steps }
         ensures twins { result.1.room ≡ most_steps }
     {
-        let DesignSweep { numbers, twins, .. } = self;
-        (numbers, twins)
+        let DesignSweep { spans, bench, .. } = self;
+        (bench, spans.into_bench())
     }
 }
 
@@ -96,20 +88,15 @@ impl<'a> Sweep for DesignSweep<'a> {
     }
 
     fn nodes(&self) -> &[Node] {
-        self.stretches.nodes()
+        self.spans.nodes()
     }
 
     fn value(&mut self, cell: u32) -> Option<u128> {
-        size_at(self.prepared, &mut self.numbers, &mut self.inputs, cell)
+        let prepared = self.spans.prepared();
+        size_at(prepared, &mut self.bench, &mut self.inputs, cell)
     }
 
     fn span(&mut self, at: usize) -> Option<Span> {
-        span_at(
-            self.prepared,
-            self.stretches,
-            &mut self.twins,
-            &mut self.twin_inputs,
-            at,
-        )
+        self.spans.span(at)
     }
 }

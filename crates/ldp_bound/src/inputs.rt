@@ -7,7 +7,10 @@ ghost use Rattle.ldp_distortion.specs.Inputs.{numbers};
 ghost use Rattle.ldp_distortion.specs.Prepared.{HasRoom, joined_at};
 ghost use Rattle.ldp_design.specs.Inputs.{AreNumbers, AreOrdered};
 ghost use Rattle.ldp_bound.specs.Plain.{number_inputs, pair_inputs};
+ghost use Rattle.ldp_bound.specs.DesignRuns.{inputs_in};
 
+use crate::design_runs::DesignRuns;
+use crate::kind_cells::KindCells;
 use ldp_design::Inputs4;
 use ldp_distortion::Prepared;
 use ldp_num::{Bench, Fix, Num};
@@ -19,28 +22,26 @@ pub(crate) const MOST_INPUTS: usize = 16;
 /// Runs the design list of a design into the first of the joint list's inputs: true exactly where
 /// it has a value.
 pub(crate) fn put_design(
-    prepared: &Prepared,
-    bench: &mut Bench<Fix>,
+    cells: &KindCells,
+    runs: &mut DesignRuns<Fix>,
     at: &Inputs4,
     inputs: &mut [Fix],
 ) -> bool
     requires numbers { AreNumbers at.now }
-    requires room { HasRoom prepared.now.lists bench.old.room }
-    requires inputs { prepared.now.lists.joint.inputs ≤ length inputs.old }
-    ensures value { value prepared.now.lists.design (number_inputs at.now)
+    requires inputs { cells.now.lists.joint.inputs ≤ length inputs.old }
+    ensures value { value cells.now.lists.design (number_inputs at.now)
         ≡ (if result
-        then Some (numbers (take (length prepared.now.lists.design.outs) inputs.new))
+        then Some (numbers (take (length cells.now.lists.design.outs) inputs.new))
         else None) }
-    ensures room { bench.new.room ≡ bench.old.room }
 {
-    put_results(prepared, bench, &number_inputs(at), inputs)
+    put_results(cells, runs, at, at, &number_inputs(at), inputs)
 }
 
 /// Runs the design list of a box, whose inputs lie between two, into the first of the joint list's
 /// inputs: true exactly where it has a value.
 pub(crate) fn put_box(
-    prepared: &Prepared,
-    bench: &mut Bench<Range>,
+    cells: &KindCells,
+    runs: &mut DesignRuns<Range>,
     low: &Inputs4,
     high: &Inputs4,
     inputs: &mut [Range],
@@ -48,37 +49,35 @@ pub(crate) fn put_box(
     requires low { AreNumbers low.now }
     requires high { AreNumbers high.now }
     requires ordered { AreOrdered low.now high.now }
-    requires room { HasRoom prepared.now.lists bench.old.room }
-    requires inputs { prepared.now.lists.joint.inputs ≤ length inputs.old }
-    ensures value { value_in range_ops prepared.now.lists.design (pair_inputs low.now high.now)
+    requires inputs { cells.now.lists.joint.inputs ≤ length inputs.old }
+    ensures value { value_in range_ops cells.now.lists.design (pair_inputs low.now high.now)
         ≡ (if result
-        then Some (take (length prepared.now.lists.design.outs) inputs.new)
+        then Some (take (length cells.now.lists.design.outs) inputs.new)
         else None) }
-    ensures room { bench.new.room ≡ bench.old.room }
 {
-    put_results(prepared, bench, &pair_inputs(low, high), inputs)
+    put_results(cells, runs, low, high, &pair_inputs(low, high), inputs)
 }
 
 /// The same in any carrier.
 fn put_results<N: Num>(
-    prepared: &Prepared,
-    bench: &mut Bench<N>,
-    design: &[N],
+    cells: &KindCells,
+    runs: &mut DesignRuns<N>,
+    low: &Inputs4,
+    high: &Inputs4,
+    design: &[N; 4],
     inputs: &mut [N],
 ) -> bool
-    requires design { length design.now ≡ 4 }
-    requires room { HasRoom prepared.now.lists bench.old.room }
-    requires inputs { prepared.now.lists.joint.inputs ≤ length inputs.old }
-    ensures value { value_in (written N.CARRIER) prepared.now.lists.design
+    requires design { map N.meaning design.now ≡ inputs_in N.CARRIER low.now high.now }
+    requires inputs { cells.now.lists.joint.inputs ≤ length inputs.old }
+    ensures value { value_in (written N.CARRIER) cells.now.lists.design
         (map N.meaning design.now)
         ≡ (if result
-        then Some (map N.meaning (take (length prepared.now.lists.design.outs) inputs.new))
+        then Some (map N.meaning (take (length cells.now.lists.design.outs) inputs.new))
         else None) }
-    ensures room { bench.new.room ≡ bench.old.room }
 {
-    let list = &prepared.lists().design;
+    let list = &cells.prepared().lists().design;
     let (first, _) = inputs.split_at_mut(list.outs().len());
-    list.run_into(bench, design, first)
+    runs.run_into(cells, low, high, design, first)
 }
 
 /// The distortion at a cell in any carrier, where the first of the joint list's inputs are the

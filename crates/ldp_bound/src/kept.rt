@@ -5,10 +5,10 @@ ghost use Rattle.ldp_problem.specs.Problem.{IsSound};
 ghost use Rattle.ldp_bound.specs.Kept.{kinds_of, family_set, kept_problem, HasCells, IsReady};
 
 use crate::Memory;
+use crate::kind_cells::KindCells;
 use crate::kinds::PreparedKinds;
 use ldp_cells::Cells;
 use ldp_design::Grids;
-use ldp_stretch::Stretched;
 use std::alloc::Global;
 
 /// What stays the same while designs and boxes are asked for: the families, the cells prepared for
@@ -49,17 +49,17 @@ impl Kept {
     }
 
     /// The cells prepared for the lists of the family with this number, cut into stretches.
-    pub fn set(&self, number: u16) -> Option<&Stretched>
+    pub fn set(&self, number: u16) -> Option<&KindCells>
         requires some { 1 ≤ number }
         requires known { number ≤ length self.now.grids }
         ensures set { option_map (λ p. p.now) result
             ≡ option_and_then (family_set self.now.kinds) (family_of self.now.grids number) }
         ensures ready { IfSome result (λ p. IsReady self.now.count p.now) }
     {
-        let stretched = self.kinds.of(self.grids.family(number))?;
-        // No list has more than 16 inputs.
-        let _inputs = stretched.prepared().lists().joint.inputs();
-        Some(stretched)
+        let cells = self.kinds.of(self.grids.family(number))?;
+        // Called for its clause: no list has more than 16 inputs.
+        let _inputs = cells.prepared().lists().joint.inputs();
+        Some(cells)
     }
 }
 

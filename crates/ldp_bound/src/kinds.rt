@@ -1,22 +1,22 @@
 ghost use Rattle.std.specs.Prelude.{◌≡◌, ◌<◌, length, IfOk, option_map};
 
 use crate::Memory;
+use crate::kind_cells::KindCells;
 use crate::lists::is_south;
 use crate::sets::prepared_for;
 use ldp_cells::Cells;
 use ldp_design::{Family, Grids, Kind};
-use ldp_stretch::Stretched;
 use std::alloc::Global;
 
 /// The cells prepared for the lists of each kind that some family has, and cut into stretches. What
 /// is prepared once serves every family of the kind, in the oblique one by hemisphere.
 #[derive(Drop)]
 pub struct PreparedKinds {
-    tm: Option<Stretched>,
-    lambert: Option<Stretched>,
-    lambert2: Option<Stretched>,
-    hotine_north: Option<Stretched>,
-    hotine_south: Option<Stretched>,
+    tm: Option<KindCells>,
+    lambert: Option<KindCells>,
+    lambert2: Option<KindCells>,
+    hotine_north: Option<KindCells>,
+    hotine_south: Option<KindCells>,
 }
 
 impl PreparedKinds {
@@ -37,7 +37,7 @@ impl PreparedKinds {
     }
 
     /// The cells prepared for the lists of a family.
-    pub fn of(&self, family: &Family) -> Option<&Stretched>
+    pub fn of(&self, family: &Family) -> Option<&KindCells>
         ensures { option_map (λ p. p.now) result ≡ family_set self.now family.now }
     {
         match family.kind {
@@ -48,7 +48,7 @@ impl PreparedKinds {
         }
     }
 
-    fn oblique(&self, south: bool) -> Option<&Stretched>
+    fn oblique(&self, south: bool) -> Option<&KindCells>
         ensures { option_map (λ p. p.now) result ≡ set_at self.now Kind.Hotine south }
     {
         if south {

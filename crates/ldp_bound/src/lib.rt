@@ -5,10 +5,12 @@
 mod benches;
 mod box_sweep;
 mod cell_by_cell;
+mod design_runs;
 mod design_sweep;
 mod hints;
 mod inputs;
 mod kept;
+mod kind_cells;
 mod kinds;
 pub mod laws;
 mod lists;

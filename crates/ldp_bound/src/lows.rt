@@ -9,6 +9,7 @@ ghost use Rattle.ldp_bound.specs.Tally.{tally_of};
 
 use crate::benches::Benches;
 use crate::box_sweep::BoxSweep;
+use crate::design_runs::DesignRuns;
 use crate::inputs::{MOST_INPUTS, joined_at, put_box};
 use crate::kept::Kept;
 use crate::tally::Tally;
@@ -19,43 +20,39 @@ use ldp_range::{Range, sharp};
 use ldp_stretch::Stretched;
 
 /// The least absolute distortion of a box at a cell, in units of 10^-15; 0 where it is undefined.
-pub(crate) fn low(kept: &Kept, bench: &mut Bench<Range>, b: &DesignBox, cell: u32) -> u128
+pub(crate) fn low(kept: &Kept, benches: &mut Benches, b: &DesignBox, cell: u32) -> u128
     requires lies { LiesIn kept.now.grids b.now }
-    requires room { bench.old.room ≡ most_steps }
     requires cell { cell < kept.now.count }
     ensures value { result ≡ kept_lower kept.now.grids kept.now.kinds b.now cell }
     ensures small { result ≤ limit }
-    ensures room { bench.new.room ≡ bench.old.room }
 {
     let mut inputs = [sharp(0); MOST_INPUTS];
-    let Some(stretched) = begun(kept, bench, b, &mut inputs) else {
+    let Some(stretched) = begun(kept, &mut benches.runs.boxes, b, &mut inputs) else {
         return 0;
     };
-    low_at(stretched.prepared(), bench, &mut inputs, cell)
+    low_at(stretched.prepared(), &mut benches.ranges, &mut inputs, cell)
 }
 
 /// What is told of the least absolute distortions of a box at all cells, cell by cell. Runs the
 /// design list once.
-pub(crate) fn lows(kept: &Kept, bench: &mut Bench<Range>, b: &DesignBox) -> Tally
+pub(crate) fn lows(kept: &Kept, benches: &mut Benches, b: &DesignBox) -> Tally
     requires lies { LiesIn kept.now.grids b.now }
-    requires room { bench.old.room ≡ most_steps }
     ensures value { result ≡ tally_of kept.now.tolerance
         (at_cells (kept_lower kept.now.grids kept.now.kinds b.now) kept.now.count) }
     ensures small { result.value ≤ limit }
-    ensures room { bench.new.room ≡ bench.old.room }
 {
     let mut inputs = [sharp(0); MOST_INPUTS];
-    let Some(stretched) = begun(kept, bench, b, &mut inputs) else {
+    let Some(stretched) = begun(kept, &mut benches.runs.boxes, b, &mut inputs) else {
         return Tally::none();
     };
-    told(kept, stretched.prepared(), bench, &mut inputs)
+    told(kept, stretched.prepared(), &mut benches.ranges, &mut inputs)
 }
 
 /// The same over the stretches of the cells, with the benches back. The hints are cells that may
 /// have the greatest value.
 pub(crate) fn lows_by_stretches(
     kept: &Kept,
-    benches: Benches,
+    mut benches: Benches,
     hints: &[u32],
     b: &DesignBox,
 ) -> (Tally, Benches)
@@ -65,27 +62,22 @@ pub(crate) fn lows_by_stretches(
     ensures small { result.0.value ≤ limit }
 {
     let mut inputs = [sharp(0); MOST_INPUTS];
+    let Some(stretched) = begun(kept, &mut benches.runs.boxes, b, &mut inputs) else {
+        return (Tally::none(), benches);
+    };
     let Benches {
+        runs,
         numbers,
-        mut ranges,
+        ranges,
         twins,
     } = benches;
-    let Some(stretched) = begun(kept, &mut ranges, b, &mut inputs) else {
-        return (
-            Tally::none(),
-            Benches {
-                numbers,
-                ranges,
-                twins,
-            },
-        );
-    };
     let mut sweep = BoxSweep::new(stretched, kept.count, ranges, twins, inputs);
     let told = swept(&mut sweep, hints, kept.tolerance);
     let (ranges, twins) = sweep.into_benches();
     (
         told,
         Benches {
+            runs,
             numbers,
             ranges,
             twins,
@@ -114,26 +106,24 @@ fn swept(sweep: &mut BoxSweep<'_>, hints: &[u32], tolerance: Option<u64>) -> Tal
 /// and so is the range of the distortion at every cell.
 fn begun<'a>(
     kept: &'a Kept,
-    bench: &mut Bench<Range>,
+    runs: &mut DesignRuns<Range>,
     b: &DesignBox,
     inputs: &mut [Range],
 ) -> Option<&'a Stretched>
     requires lies { LiesIn kept.now.grids b.now }
-    requires room { bench.old.room ≡ most_steps }
     requires inputs { 16 ≤ length inputs.old }
     ensures none { IfNone result
         ((cell : ℕ) → kept_lower kept.now.grids kept.now.kinds b.now cell ≡ 0) }
     ensures tells { IfSome result
         (λ p. TellsBox kept.now.grids kept.now.kinds b.now p.now inputs.new) }
     ensures ready { IfSome result (λ p. IsReady kept.now.count p.now) }
-    ensures room { bench.new.room ≡ bench.old.room }
 {
-    let stretched = kept.set(b.family)?;
+    let cells = kept.set(b.family)?;
     let (low, high) = inputs_of(&kept.grids, b);
-    if !put_box(stretched.prepared(), bench, &low, &high, inputs) {
+    if !put_box(cells, runs, &low, &high, inputs) {
         return None;
     }
-    Some(stretched)
+    Some(cells.stretched())
 }
 
 /// The least absolute distortion at a cell, where the first of the inputs are the results of the

@@ -101,7 +101,7 @@ impl Bounds for Plain {
         let Some(mut benches) = self.benches.take() else {
             unreachable!();
         };
-        let low = low(&self.kept, &mut benches.ranges, b, cell);
+        let low = low(&self.kept, &mut benches, b, cell);
         self.benches = Some(benches);
         signed(low)
     }
@@ -111,7 +111,7 @@ impl Bounds for Plain {
         let Some(mut benches) = self.benches.take() else {
             unreachable!();
         };
-        let size = size(&self.kept, &mut benches.numbers, d, cell);
+        let size = size(&self.kept, &mut benches, d, cell);
         self.benches = Some(benches);
         size.is_some()
     }
@@ -121,7 +121,8 @@ impl Bounds for Plain {
         ensures value { result ≡ cost_of (⟦<Plain as Bounds>⟧.problem self.old) d.now }
         ensures number { HasNumber result }
         ensures same { ⟦<Plain as Bounds>⟧.problem self.new ≡ ⟦<Plain as Bounds>⟧.problem self.old }
-        ensures asked { ⟦<Plain as Bounds>⟧.times self.new ≡ count_up (⟦<Plain as Bounds>⟧.times self.old) }
+        ensures asked { ⟦<Plain as Bounds>⟧.times self.new
+            ≡ count_up (⟦<Plain as Bounds>⟧.times self.old) }
     {
         self.asked = self.asked.saturating_add(1);
         let Some(benches) = self.benches.take() else {

@@ -3,11 +3,10 @@ ghost use Rattle.std.specs.List.{list_any};
 ghost use Rattle.ldp_bound.specs.Kept.{is_same, has_lists, set_of};
 
 use crate::Memory;
-use crate::lists::{is_south, lists_of};
+use crate::kind_cells::KindCells;
+use crate::lists::is_south;
 use ldp_cells::Cells;
 use ldp_design::{Family, Grids, Kind};
-use ldp_distortion::Prepared;
-use ldp_stretch::Stretched;
 use std::alloc::Global;
 
 /// The cells prepared for the lists of a kind and a hemisphere, where some family has them.
@@ -17,17 +16,15 @@ pub(crate) fn prepared_for(
     cells: &Cells,
     kind: Kind,
     south: bool,
-) -> Result<Option<Stretched>, Memory>
+) -> Result<Option<KindCells>, Memory>
     requires { 0 < length cells.now.cells }
     ensures { IfOk result (λ set. set ≡ set_of grids.now cells.now.cells kind south) }
 {
     if !some_has(grids, kind, south) {
         return Ok(None);
     }
-    let lists = lists_of(alloc, kind, south)?;
-    let prepared = Prepared::new(alloc, lists, cells)?;
-    let stretched = Stretched::new(alloc, prepared, cells.len())?;
-    Ok(Some(stretched))
+    let set = KindCells::new(alloc, kind, south, cells)?;
+    Ok(Some(set))
 }
 
 fn some_has(grids: &Grids, kind: Kind, south: bool) -> bool
@@ -47,7 +44,7 @@ fn has_lists(kind: Kind, south: bool, family: &Family) -> bool
     is_same(kind, south, family.kind, is_south(family))
 }
 
-fn is_same(kind: Kind, south: bool, other: Kind, other_south: bool) -> bool
+pub(crate) fn is_same(kind: Kind, south: bool, other: Kind, other_south: bool) -> bool
     ensures { result ≡ is_same kind south other other_south }
 {
     match (kind, other) {

@@ -9,6 +9,7 @@ ghost use Rattle.ldp_bound.specs.Kept.{kept_delta, size_from, IsReady, TellsDesi
 ghost use Rattle.ldp_bound.specs.Tally.{cost_over};
 
 use crate::benches::Benches;
+use crate::design_runs::DesignRuns;
 use crate::design_sweep::DesignSweep;
 use crate::inputs::{MOST_INPUTS, joined_at, put_design};
 use crate::kept::Kept;
@@ -20,39 +21,45 @@ use ldp_problem::Cost;
 use ldp_stretch::Stretched;
 
 /// The absolute distortion of a design at a cell, in units of 10^-15.
-pub(crate) fn size(kept: &Kept, bench: &mut Bench<Fix>, d: &Design, cell: u32) -> Option<u128>
+pub(crate) fn size(kept: &Kept, benches: &mut Benches, d: &Design, cell: u32) -> Option<u128>
     requires admitted { IsAdmitted kept.now.grids d.now }
-    requires room { bench.old.room ≡ most_steps }
     requires cell { cell < kept.now.count }
-    ensures value { result ≡ kept_delta kept.now.grids kept.now.kinds d.now cell }
-    ensures room { bench.new.room ≡ bench.old.room }
+    ensures { result ≡ kept_delta kept.now.grids kept.now.kinds d.now cell }
 {
     let mut inputs = [Fix { n: 0 }; MOST_INPUTS];
-    let stretched = begun(kept, bench, d, &mut inputs)?;
-    size_at(stretched.prepared(), bench, &mut inputs, cell)
+    let stretched = begun(kept, &mut benches.runs.designs, d, &mut inputs)?;
+    size_at(
+        stretched.prepared(),
+        &mut benches.numbers,
+        &mut inputs,
+        cell,
+    )
 }
 
 /// The cost of a design over all cells, cell by cell. Runs the design list once.
-pub(crate) fn cost(kept: &Kept, bench: &mut Bench<Fix>, d: &Design) -> Cost
-    requires admitted { IsAdmitted kept.now.grids d.now }
-    requires room { bench.old.room ≡ most_steps }
+pub(crate) fn cost(kept: &Kept, benches: &mut Benches, d: &Design) -> Cost
+    requires { IsAdmitted kept.now.grids d.now }
     ensures value { result ≡ cost_over kept.now.tolerance
         (kept_delta kept.now.grids kept.now.kinds d.now) kept.now.count }
     ensures number { HasNumber result }
-    ensures room { bench.new.room ≡ bench.old.room }
 {
     let mut inputs = [Fix { n: 0 }; MOST_INPUTS];
-    let Some(stretched) = begun(kept, bench, d, &mut inputs) else {
+    let Some(stretched) = begun(kept, &mut benches.runs.designs, d, &mut inputs) else {
         return Cost::Unusable { cell: 0 };
     };
-    told(kept, stretched.prepared(), bench, &mut inputs)
+    told(
+        kept,
+        stretched.prepared(),
+        &mut benches.numbers,
+        &mut inputs,
+    )
 }
 
 /// The same over the stretches of the cells, with the benches back. The hints are cells that may
 /// have the greatest value.
 pub(crate) fn cost_by_stretches(
     kept: &Kept,
-    benches: Benches,
+    mut benches: Benches,
     hints: &[u32],
     d: &Design,
 ) -> (Cost, Benches)
@@ -62,27 +69,22 @@ pub(crate) fn cost_by_stretches(
     ensures number { HasNumber result.0 }
 {
     let mut inputs = [Fix { n: 0 }; MOST_INPUTS];
+    let Some(stretched) = begun(kept, &mut benches.runs.designs, d, &mut inputs) else {
+        return (Cost::Unusable { cell: 0 }, benches);
+    };
     let Benches {
-        mut numbers,
+        runs,
+        numbers,
         ranges,
         twins,
     } = benches;
-    let Some(stretched) = begun(kept, &mut numbers, d, &mut inputs) else {
-        return (
-            Cost::Unusable { cell: 0 },
-            Benches {
-                numbers,
-                ranges,
-                twins,
-            },
-        );
-    };
     let mut sweep = DesignSweep::new(stretched, kept.count, numbers, twins, inputs);
     let told = swept(&mut sweep, hints, kept.tolerance);
     let (numbers, twins) = sweep.into_benches();
     (
         told,
         Benches {
+            runs,
             numbers,
             ranges,
             twins,
@@ -113,26 +115,24 @@ fn swept(sweep: &mut DesignSweep<'_>, hints: &[u32], tolerance: Option<u64>) -> 
 /// undefined, and so is the distortion at every cell.
 fn begun<'a>(
     kept: &'a Kept,
-    bench: &mut Bench<Fix>,
+    runs: &mut DesignRuns<Fix>,
     d: &Design,
     inputs: &mut [Fix],
 ) -> Option<&'a Stretched>
     requires admitted { IsAdmitted kept.now.grids d.now }
-    requires room { bench.old.room ≡ most_steps }
     requires inputs { 16 ≤ length inputs.old }
     ensures none { IfNone result
         ((cell : ℕ) → kept_delta kept.now.grids kept.now.kinds d.now cell ≡ None) }
     ensures tells { IfSome result
         (λ p. TellsDesign kept.now.grids kept.now.kinds d.now p.now inputs.new) }
     ensures ready { IfSome result (λ p. IsReady kept.now.count p.now) }
-    ensures room { bench.new.room ≡ bench.old.room }
 {
-    let stretched = kept.set(d.family)?;
+    let cells = kept.set(d.family)?;
     let at = inputs_at(&kept.grids, d);
-    if !put_design(stretched.prepared(), bench, &at, inputs) {
+    if !put_design(cells, runs, &at, inputs) {
         return None;
     }
-    Some(stretched)
+    Some(cells.stretched())
 }
 
 /// The absolute distortion at a cell, where the first of the inputs are the results of the design

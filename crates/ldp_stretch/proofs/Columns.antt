@@ -1,21 +1,23 @@
 -- Hulls that are put together number by number, and looked up as a whole.
-use Rattle.std.proofs.Common.{◌≡◌, ◌<◌, ◌≤◌, ◌+◌, ◌-◌, ℕ, zero, suc, ℤ, pos, get_or, List, [], ◌∷◌, ◌++◌, length, take, drop, arith, refl, sym, ap, subst, ◌∙◌, ◌⊎◌, inl, inr}
+use Rattle.std.proofs.Common.{◌≡◌, ◌<◌, ◌≤◌, ◌+◌, ℕ, ℤ, pos, get_or, List, [], ◌∷◌, ◌++◌, length}
+use Rattle.std.proofs.Common.{take, drop, arith, sym, ap, subst, ◌∙◌, ◌⊎◌, inl, inr}
 use Rattle.std.specs.Int.Signed.{≤ℤ_refl}
 use Rattle.std.proofs.lemmas.Bool.{cases_lt}
 use Rattle.std.proofs.lemmas.List.{length-append, length-take-le, length-drop}
 use Rattle.std.proofs.lemmas.List.Elements.{All-get_or}
-use Rattle.std.proofs.lemmas.Option.{same_Some, slice_get_within, slice_get-get_or, slice_get_read, get_or_from_slice_get}
+use Rattle.std.proofs.lemmas.Option.{same_Some, slice_get_within, slice_get-get_or, slice_get_read}
+use Rattle.std.proofs.lemmas.Option.{get_or_from_slice_get}
 use Rattle.std.specs.Option.{ForSome}
 use Rattle.std.specs.Prelude.{Option, None, Some, slice_get, IfSome}
 use Rattle.ldp_range.specs.Range.{LiesIn, twice, pair_hull}
-use Rattle.ldp_range.specs.Related.{Pairwise}
 use Rattle.ldp_range.proofs.Ends.{hull-holds}
 use Rattle.ldp_distortion.specs.Rows.{AreRows, IsRow}
 use Rattle.ldp_sweep.specs.declared.node.Node.{Node}
 use Rattle.ldp_distortion.specs.Prepared.{PreparedCells}
 use Rattle.ldp_sweep.specs.Cut.{IsCut}
 use Rattle.ldp_stretch.specs.declared.stretches.Stretches.{Stretches}
-use Rattle.ldp_stretch.specs.Hulls.{width_of, Rows, IsNumberAt, LiesAt, HoldsColumn, IsHull, AreHulls, RowLiesIn, HoldsRows, IsLonger}
+use Rattle.ldp_stretch.specs.Hulls.{width_of, Rows, IsNumberAt, LiesAt, HoldsColumn, IsHull}
+use Rattle.ldp_stretch.specs.Hulls.{AreHulls, HoldsRows, IsLonger}
 use Rattle.ldp_stretch.proofs.Lists.{get_front, get_last, get_take, get_drop, pairwise_at}
 
 own_number : (n : ℤ) → LiesIn n (twice n)
@@ -28,7 +30,11 @@ pub column_first : (rows : Rows) (from place : ℕ) (number : ℤ) (range : ℤ 
 column_first rows from place number range is same cell low high =
     let here : from ≡ cell = omega arith in
     subst (λ k. LiesAt rows k place range) here
-    (record { number = number; is = is; lies = subst (LiesIn number) (sym same) (own_number number) })
+    (record {
+      number = number;
+      is = is;
+      lies = subst (LiesIn number) (sym same) (own_number number);
+    })
 
 pub column_more : (rows : Rows) (from place cell : ℕ) (number : ℤ) (old new : ℤ × ℤ)
     → HoldsColumn rows from cell place old → IsNumberAt rows cell place number
@@ -115,14 +121,20 @@ pub hulls_more : (rows : Rows) (width : ℕ) (nodes : List Node) (old new : List
     → length old ≡ at → new ≡ old ++ found ∷ [] → slice_get nodes at ≡ Some node
     → IsLonger ranges longer → IfSome found (IsHull rows width longer node)
     → AreEach rows width nodes old ranges → AreEach rows width nodes new longer
-hulls_more rows width nodes old new ranges longer at node found count pushed here more hull known k other begin e f =
+hulls_more rows width nodes old new ranges longer at node found count pushed here more hull known k
+    other begin e f =
     by_place (cases_lt k at)
   where
     whole : slice_get (old ++ found ∷ []) k ≡ Some (Some begin)
     whole = ap (λ (xs : List (Option ℕ)). slice_get xs k) (sym pushed) ∙ f
 
     within : k < length old + 1
-    within = omega (arith, slice_get_within (old ++ found ∷ []) k (Some begin) whole, length-append old (found ∷ []))
+    within =
+        omega (
+          arith,
+          slice_get_within (old ++ found ∷ []) k (Some begin) whole,
+          length-append old (found ∷ []),
+        )
 
     by_place : (k < at) ⊎ (at ≤ k) → IsHull rows width longer other begin
     by_place (inl before) =
@@ -169,7 +181,10 @@ hull_holds rows width ranges hull node begin full is part cell low high =
     }
   where
     count : length hull ≡ width
-    count = ap length part ∙ length-take-le width (drop begin ranges) (omega (arith, is.within, length-drop begin ranges))
+    count =
+        ap length part
+        ∙ length-take-le width (drop begin ranges)
+        (omega (arith, is.within, length-drop begin ranges))
 
     at : (place : ℕ) (range : ℤ × ℤ) → place < width → slice_get hull place ≡ Some range
         → LiesAt rows cell place range
@@ -184,7 +199,9 @@ hull_holds rows width ranges hull node begin full is part cell low high =
     start = get_or hull 0 (twice (pos 0))
 
     first : LiesAt rows cell 0 start
-    first = at 0 start is.some (slice_get-get_or hull 0 (twice (pos 0)) (omega (arith, count, is.some)))
+    first =
+        at 0 start is.some
+        (slice_get-get_or hull 0 (twice (pos 0)) (omega (arith, count, is.some)))
 
     its : IsRow width first.is.row
     its = row_at rows width cell first.is.row full first.is.is
@@ -193,7 +210,8 @@ hull_holds rows width ranges hull node begin full is part cell low high =
         → slice_get hull i ≡ Some range → LiesIn number range
     each i number range e f =
         let other = at i range (omega (arith, count, slice_get_within hull i range f)) f in
-        let same : other.is.row ≡ first.is.row = same_row rows cell other.is.row first.is.row other.is.is first.is.is in
+        let same : other.is.row ≡ first.is.row =
+        same_row rows cell other.is.row first.is.row other.is.is first.is.is in
         let value : other.number ≡ number = same_Some other.number number
         (sym other.is.here ∙ ap (λ (xs : List ℤ). slice_get xs i) same ∙ e) in
         subst (λ n. LiesIn n range) value other.lies

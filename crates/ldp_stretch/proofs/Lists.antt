@@ -1,7 +1,9 @@
 -- Elements of a list at their places, and lists that are related place by place.
-use Rattle.std.proofs.Common.{◌≡◌, ◌<◌, ◌≤◌, ◌+◌, ◌-◌, ℕ, zero, suc, List, [], ◌∷◌, ◌++◌, length, take, drop, map, set, arith, refl, sym, ap, subst, ◌∙◌}
+use Rattle.std.proofs.Common.{◌≡◌, ◌<◌, ◌+◌, ℕ, zero, suc, List, [], ◌∷◌, ◌++◌, length, take, drop}
+use Rattle.std.proofs.Common.{map, set, get_or, arith, refl, sym, ap, subst, ◌∙◌}
+use Rattle.std.proofs.lemmas.List.{take_more_set, map_more}
 use Rattle.std.proofs.lemmas.Option.{same_Some}
-use Rattle.std.specs.Prelude.{Option, None, Some, slice_get}
+use Rattle.std.specs.Prelude.{Some, slice_get}
 use Rattle.ldp_range.specs.Related.{Pairwise, Reaches}
 
 -- elements in front stay where more come behind, and the first of these is the next
@@ -23,7 +25,8 @@ get_take (suc n) [] i x e = e
 get_take (suc n) (y ∷ xs) zero x e = e
 get_take (suc n) (y ∷ xs) (suc i) x e = get_take n xs i x e
 
-pub get_drop : {A : Type 0} (n : ℕ) (xs : List A) (i : ℕ) → slice_get (drop n xs) i ≡ slice_get xs (n + i)
+pub get_drop : {A : Type 0} (n : ℕ) (xs : List A) (i : ℕ)
+    → slice_get (drop n xs) i ≡ slice_get xs (n + i)
 get_drop zero xs i = let e : 0 + i ≡ i = omega arith in rw e refl
 get_drop (suc n) [] i = refl
 get_drop (suc n) (y ∷ xs) i =
@@ -61,6 +64,16 @@ pairwise_next R xs ys i x y e h r so_far =
     let next : suc i ≡ i + 1 = omega arith in
     subst (λ n. Pairwise R (take n xs) (take n (set ys i y))) next
     (pairwise_more R xs ys i x y e h r so_far)
+
+-- one more value of a function
+pub mapped_next : {A B : Type 0} (f : A → B) (xs : List A) (ys : List B) (i : ℕ) (x : A) (y : B)
+    → x ≡ get_or xs i x → i < length xs → i < length ys → y ≡ f x
+    → take i ys ≡ map f (take i xs) → take (i + 1) (set ys i y) ≡ map f (take (i + 1) xs)
+mapped_next f xs ys i x y read inside room value so_far =
+    take_more_set ys i y room
+    ∙ ap (λ front. front ++ y ∷ []) so_far
+    ∙ ap (λ last. map f (take i xs) ++ last ∷ []) (value ∙ ap f read)
+    ∙ sym (map_more f xs i x inside)
 
 pub pairwise_appended : {A B : Type 0} (R : A → B → Type 0) (xs us : List A) (ys vs : List B)
     → Pairwise R xs ys → Pairwise R us vs → Pairwise R (xs ++ us) (ys ++ vs)

@@ -1,12 +1,13 @@
 -- A run in twins over a hull bounds the least absolute distortion at each cell.
-use Rattle.std.proofs.Common.{◌≡◌, ◌≤◌, ◌<◌, ℕ, ℤ, pos, ◌≤ℤ◌, List, [], ◌∷◌, ◌++◌, map, arith, refl, sym, ap, subst, ◌∙◌}
+use Rattle.std.proofs.Common.{◌≡◌, ◌≤◌, ℕ, ℤ, pos, ◌≤ℤ◌, List, [], ◌∷◌, ◌++◌, map, arith, sym, ap}
+use Rattle.std.proofs.Common.{◌∙◌}
 use Rattle.std.proofs.lemmas.Int.{ints, clamps}
 use Rattle.std.proofs.lemmas.Option.{option_and_then_some}
-use Rattle.std.specs.Prelude.{Option, None, Some, option_and_then, slice_get, unsigned_abs}
+use Rattle.std.specs.Prelude.{Option, Some, option_and_then, unsigned_abs}
 use Rattle.ldp_num.specs.Twins.{TwinPair}
 use Rattle.ldp_num.specs.Written.{range_ops, twin_ops}
 use Rattle.ldp_num.specs.StepList.{value_in, first_result}
-use Rattle.ldp_range.specs.Range.{LiesIn, twice, pair_low_abs}
+use Rattle.ldp_range.specs.Range.{LiesIn, pair_low_abs}
 use Rattle.ldp_range.specs.Related.{Pairwise, Reaches}
 use Rattle.ldp_range.specs.Twin.{IsHeld, twin_most, twin_fewest}
 use Rattle.ldp_range.proofs.Held.{twin-inclusion}
@@ -16,7 +17,7 @@ use Rattle.ldp_distortion.specs.Distortion.{joined_in}
 use Rattle.ldp_distortion.specs.Prepared.{PreparedCells, joined_at}
 use Rattle.ldp_sweep.specs.declared.node.Node.{Node}
 use Rattle.ldp_sweep.specs.declared.span.Span.{Span}
-use Rattle.ldp_stretch.specs.Hulls.{HoldsRows, RowLiesIn}
+use Rattle.ldp_stretch.specs.Hulls.{HoldsRows}
 use Rattle.ldp_stretch.specs.Spans.{IsSpanned, SpansNode}
 use Rattle.ldp_stretch.specs.Twins.{hull_twins}
 use Rattle.ldp_stretch.proofs.Lists.{pairwise_appended, first_related}
@@ -62,8 +63,10 @@ twin_spans : (range : ℤ × ℤ) (t : TwinPair) (found : Option (ℤ × ℤ)) (
 twin_spans range t found span held is low high = record {
   range = range;
   is = is;
-  low = between-low (pair_low_abs range) (twin_fewest t) span.low (fewest range t held) (least-natural range) (natural-fewest t) low;
-  high = between-high (pair_low_abs range) (twin_most t) span.high (most range t held) (least-natural range) high;
+  low = between-low (pair_low_abs range) (twin_fewest t) span.low (fewest range t held)
+      (least-natural range) (natural-fewest t) low;
+  high = between-high (pair_low_abs range) (twin_most t) span.high (most range t held)
+      (least-natural range) high;
 }
 
 pub node_spanned : (p : PreparedCells) (twins : List TwinPair) (hull : List (ℤ × ℤ)) (node : Node)

@@ -1,5 +1,5 @@
 -- What a run of the joint list in twins tells.
-use Rattle.std.proofs.Common.{◌≡◌, ℕ, ℤ, List, [], ◌∷◌, ◌++◌, map, take, length, refl, sym, ap, ◌∙◌}
+use Rattle.std.proofs.Common.{◌≡◌, List, map, refl, sym, ap, ◌∙◌}
 use Rattle.std.proofs.lemmas.Option.{slice_get-map}
 use Rattle.std.specs.Prelude.{Option, None, Some, option_map, option_and_then}
 use Rattle.ldp_num.specs.Twins.{TwinPair}

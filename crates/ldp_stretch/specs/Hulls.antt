@@ -22,12 +22,13 @@ pub record IsNumberAt (rows : Rows) (cell place : ℕ) (number : ℤ) : Type 0 w
   pub is : slice_get rows cell ≡ Some (Some row)
   pub here : slice_get row place ≡ Some number
 
--- at each cell from one to another, it is there and lies in the range
+-- the result at a cell and a place is there and lies in the range
 pub record LiesAt (rows : Rows) (cell place : ℕ) (range : ℤ × ℤ) : Type 0 where
   pub number : ℤ
   pub is : IsNumberAt rows cell place number
   pub lies : LiesIn number range
 
+-- the result at a place is there at each cell from one to another, and lies in the range
 abbrev pub HoldsColumn : Rows → ℕ → ℕ → ℕ → ℤ × ℤ → Type 0
 HoldsColumn rows from to place range =
     (cell : ℕ) → from ≤ cell → cell < to → LiesAt rows cell place range
@@ -54,7 +55,7 @@ pub record RowLiesIn (rows : Rows) (cell : ℕ) (hull : List (ℤ × ℤ)) : Typ
   pub is : slice_get rows cell ≡ Some (Some row)
   pub lies : Pairwise LiesIn row hull
 
--- so it is at each cell of a node
+-- the results at each cell of a node are defined and lie in the hull
 abbrev pub HoldsRows : Rows → Node → List (ℤ × ℤ) → Type 0
 HoldsRows rows node hull =
     (cell : ℕ) → node.from ≤ cell → cell < node.to → RowLiesIn rows cell hull

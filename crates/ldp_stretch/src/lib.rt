@@ -8,10 +8,9 @@ mod hull;
 mod span;
 mod stretched;
 mod stretches;
+mod twin_spans;
 mod twins;
 
-pub use span::span_at;
 pub use std::alloc::AllocError as Memory;
 pub use stretched::Stretched;
-pub use stretches::Stretches;
-pub use twins::{put_numbers, put_ranges};
+pub use twin_spans::TwinSpans;

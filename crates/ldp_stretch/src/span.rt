@@ -1,4 +1,5 @@
-ghost use Rattle.std.specs.Prelude.{◌≡◌, ◌≤◌, ◌<◌, ◌+◌, ◌++◌, length, take, map, option_map, IfSome};
+ghost use Rattle.std.specs.Prelude.{◌≡◌, ◌≤◌, ◌<◌, ◌+◌, ◌++◌, length, take, map, option_map};
+ghost use Rattle.std.specs.Prelude.{IfSome};
 ghost use Rattle.ldp_num.specs.Written.{twin_ops};
 ghost use Rattle.ldp_num.specs.StepList.{value_in, first_result};
 ghost use Rattle.ldp_distortion.specs.Prepared.{HasRoom};
@@ -16,7 +17,7 @@ use ldp_sweep::Span;
 /// Bounds of the least absolute distortion at each cell of the node at a place, in units of 10^-15,
 /// where the first of the inputs are twins of the results of the design list; these stay. None:
 /// it is not known that the distortion is defined at each.
-pub fn span_at(
+pub(crate) fn span_at(
     prepared: &Prepared,
     stretches: &Stretches,
     bench: &mut Bench<Twin>,
@@ -71,7 +72,8 @@ fn joined(
 ) -> Option<Twin>
     requires hull { length hull.now ≡ width_of prepared.now }
     requires room { HasRoom prepared.now.lists bench.old.room }
-    requires inputs { length inputs.old ≡ length prepared.now.lists.design.outs + width_of prepared.now }
+    requires inputs { length inputs.old
+        ≡ length prepared.now.lists.design.outs + width_of prepared.now }
     ensures value { result ≡ first_result (value_in twin_ops prepared.now.lists.joint
         (take (length prepared.now.lists.design.outs) inputs.old ++ hull_twins hull.now)) }
     ensures kept { take (length prepared.now.lists.design.outs) inputs.new

@@ -40,13 +40,15 @@ impl Stretched {
         })
     }
 
+    /// The prepared cells.
     pub fn prepared(&self) -> &Prepared
         ensures { result.now ≡ self.now }
     {
         &self.prepared
     }
 
-    pub fn stretches(&self) -> &Stretches
+    /// The stretches into which they are cut, with their hulls.
+    pub(crate) fn stretches(&self) -> &Stretches
         ensures { AreStretches self.now result.now }
     {
         &self.stretches

@@ -20,7 +20,8 @@ pub struct Stretches {
 impl Stretches {
     ghost use Rattle.ldp_stretch.specs.Hulls.{AreStretches, HoldsRows, width_of};
 
-    /// Cuts so many prepared cells.
+    /// Cuts so many prepared cells. That a stretch has a hull is told by no clause; where it has
+    /// one, the hull holds the results at each of its cells.
     pub fn new(alloc: Global, prepared: &Prepared, count: u32) -> Result<Stretches, Memory>
         requires some { 0 < count }
         requires count { length prepared.now.results ≡ count }

@@ -10,7 +10,7 @@ use Rattle.ldp_sweep.specs.declared.node.Node.{Node}
 use Rattle.ldp_sweep.specs.Cut.{first_cell, start, IsNode, AreNodes, IsCut}
 use Rattle.ldp_sweep.specs.Grown.{IsGrown, IsGrownFrom}
 
--- the cells of a list with nodes covers from the first cell of its last node on
+-- the nodes up to a place cover the cells from the first one of the node there on
 pub start_is : (cells : ℕ) (nodes : List Node) (at : ℕ) (node : Node)
     → slice_get nodes at ≡ Some node → start cells nodes (suc at) ≡ node.from
 start_is cells nodes at node found = ap (first_cell cells) found
@@ -45,10 +45,11 @@ node_front : (cells : ℕ) (nodes more : List Node) (at : ℕ) (node : Node) →
     → IsNode cells nodes at node → IsNode cells (nodes ++ more) at node
 node_front cells nodes more at node h known =
     record {
-      back = known.back;
+      skips_back = known.skips_back;
       ordered = known.ordered;
       inside = known.inside;
-      past = start_front cells nodes more node.skip (omega (arith, known.back)) ∙ known.past;
+      behind = start_front cells nodes more node.skip (omega (arith, known.skips_back))
+          ∙ known.behind;
       parts = λ k. start_front cells nodes more at (omega arith) ∙ known.parts k;
     }
 
@@ -77,10 +78,10 @@ nodes_push cells nodes last known new at node found = by_place (cases_lt at (len
         (sym (get_last nodes last) ∙ ap (slice_get (nodes ++ last ∷ [])) (sym here) ∙ found) in
         let moved : IsNode cells (nodes ++ last ∷ []) (length nodes) last =
         record {
-          back = new.back;
+          skips_back = new.skips_back;
           ordered = new.ordered;
           inside = new.inside;
-          past = start_front cells nodes (last ∷ []) last.skip new.back ∙ new.past;
+          behind = start_front cells nodes (last ∷ []) last.skip new.skips_back ∙ new.behind;
           parts = λ k. start_front cells nodes (last ∷ []) (length nodes) (omega arith)
               ∙ new.parts k;
         } in
@@ -124,10 +125,10 @@ grown_node old nodes node end parts skip ordered covered cells inside covers =
   where
     is_node : IsGrown cells old nodes end → IsNode cells nodes (length nodes) node
     is_node grown = record {
-      back = omega (arith, ap length grown.is, length-append old grown.more);
+      skips_back = omega (arith, ap length grown.is, length-append old grown.more);
       ordered = ordered;
       inside = inside;
-      past = ap (start cells nodes) skip
+      behind = ap (start cells nodes) skip
           ∙ ap (λ list. start cells list (length old)) grown.is
           ∙ start_front cells old grown.more (length old) (omega arith) ∙ covers;
       parts = λ h. grown.covers ∙ covered (omega arith);

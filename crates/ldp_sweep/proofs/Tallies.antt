@@ -10,8 +10,9 @@ use Rattle.ldp_sweep.specs.declared.span.Span.{Span}
 use Rattle.ldp_sweep.specs.declared.tally.Tally.{Tally}
 use Rattle.ldp_sweep.specs.Cut.{Cut, IsWithin}
 use Rattle.ldp_sweep.specs.Tally.{number_at, over_of, peak_of}
-use Rattle.ldp_sweep.specs.Peaks.{IsAtMost, IsReal, IsTally, IsPassed}
-use Rattle.ldp_sweep.proofs.Values.{over_more, over_zero, over_none, over_all, one_below, one_above, is_peak}
+use Rattle.ldp_sweep.specs.Peaks.{IsAtMost, IsAtCell, IsTally, IsPassed}
+use Rattle.ldp_sweep.proofs.Values.{over_more, over_zero, over_none, over_all, one_below, one_above}
+use Rattle.ldp_sweep.proofs.Values.{is_peak}
 
 -- the order of peaks
 at_most_both : (a b c : Peak) → IsAtMost a b → IsAtMost b c → IsAtMost a c
@@ -21,15 +22,16 @@ at_most_both a b c h k =
       cell = λ e. omega (arith, h.value, k.value, h.cell, k.cell);
     }
 
--- one of two peaks is real where both are
-pub real_of : (cut : Cut) (left right peak : Peak) → IsReal cut left → IsReal cut right
-    → (peak ≡ left) ⊎ (peak ≡ right) → IsReal cut peak
-real_of cut left right peak h k (inl is) = subst (IsReal cut) (sym is) h
-real_of cut left right peak h k (inr is) = subst (IsReal cut) (sym is) k
+-- one of two peaks has its value at its cell where both have
+pub at_cell_of : (cut : Cut) (left right peak : Peak) → IsAtCell cut left → IsAtCell cut right
+    → (peak ≡ left) ⊎ (peak ≡ right) → IsAtCell cut peak
+at_cell_of cut left right peak h k (inl is) = subst (IsAtCell cut) (sym is) h
+at_cell_of cut left right peak h k (inr is) = subst (IsAtCell cut) (sym is) k
 
--- the number of a real peak
-number_of : (cut : Cut) (peak : Peak) → IsReal cut peak → number_at cut.value peak.cell ≡ peak.value
-number_of cut peak real = ap (λ (v : Option ℕ). unwrap_or v 0) real.value
+-- the number at the cell of a peak
+number_of : (cut : Cut) (peak : Peak) → IsAtCell cut peak
+    → number_at cut.value peak.cell ≡ peak.value
+number_of cut peak at_cell = ap (λ (v : Option ℕ). unwrap_or v 0) at_cell.value
 
 is_some : (o : Option ℕ) (v : ℕ) → o ≡ Some v → IsSome o
 is_some None v h = cc
@@ -37,29 +39,29 @@ is_some (Some u) v h = search rules
 
 -- before any cell
 pub tally_none : (cut : Cut) (tolerance : Option ℕ) (cells : ℕ) (tally : Tally) → cells ≡ 0
-    → tally.over ≡ 0 → IsReal cut tally.peak → IsTally cut tolerance cells tally
-tally_none cut tolerance cells tally none over real =
+    → tally.over ≡ 0 → IsAtCell cut tally.peak → IsTally cut tolerance cells tally
+tally_none cut tolerance cells tally none over at_cell =
     record {
       defined = λ cell k. absurd (omega arith);
       over = over ∙ sym (over_zero (number_at cut.value) tolerance)
           ∙ ap (over_of cut.value tolerance) (sym none);
-      real = real;
+      at_cell = at_cell;
       most = λ cell h k. absurd (omega arith);
     }
 
 -- after one more cell
 pub tally_more : (cut : Cut) (tolerance : Option ℕ) (cell : ℕ) (old new : Tally) (peak : Peak)
-    → IsTally cut tolerance cell old → IsReal cut peak → peak.cell ≡ cell
+    → IsTally cut tolerance cell old → IsAtCell cut peak → peak.cell ≡ cell
     → new.over ≡ old.over + beyond tolerance (peak.value ∷ [])
     → (new.peak ≡ old.peak) ⊎ (new.peak ≡ peak)
     → IsAtMost old.peak new.peak → IsAtMost peak new.peak
     → IsTally cut tolerance (cell + 1) new
-tally_more cut tolerance cell old new peak known real place counts one left right =
+tally_more cut tolerance cell old new peak known at_cell place counts one left right =
     subst (λ n. IsTally cut tolerance n new) next
     (record {
       defined = λ k h. defined k (cases_lt k cell) h;
       over = over;
-      real = real_of cut old.peak peak new.peak known.real real one;
+      at_cell = at_cell_of cut old.peak peak new.peak known.at_cell at_cell one;
       most = λ k low high. most k low (cases_lt k cell) high;
     })
   where
@@ -67,7 +69,7 @@ tally_more cut tolerance cell old new peak known real place counts one left righ
     next = omega arith
 
     value : number_at cut.value cell ≡ peak.value
-    value = ap (number_at cut.value) (sym place) ∙ number_of cut peak real
+    value = ap (number_at cut.value) (sym place) ∙ number_of cut peak at_cell
 
     over : new.over ≡ over_of cut.value tolerance (suc cell)
     over =
@@ -79,7 +81,7 @@ tally_more cut tolerance cell old new peak known real place counts one left righ
     defined k (inl before) high = known.defined k before
     defined k (inr after) high =
         let same : k ≡ peak.cell = omega arith in
-        is_some (cut.value k) peak.value (ap cut.value same ∙ real.value)
+        is_some (cut.value k) peak.value (ap cut.value same ∙ at_cell.value)
 
     most : (k : ℕ) → 0 ≤ k → (k < cell) ⊎ (cell ≤ k) → k < suc cell
         → IsAtMost (record { value = number_at cut.value k; cell = k }) new.peak
@@ -102,7 +104,7 @@ tally_passed cut tolerance node old new more known passed counts same =
     record {
       defined = λ cell high. defined cell (cases_lt cell node.from) high;
       over = counts ∙ ap (λ n. n + more) known.over ∙ sym passed.over;
-      real = subst (IsReal cut) (sym same) known.real;
+      at_cell = subst (IsAtCell cut) (sym same) known.at_cell;
       most = λ cell low high.
           subst (λ (peak : Peak). IsAtMost
           (record { value = number_at cut.value cell; cell = cell }) peak) (sym same)
@@ -124,8 +126,8 @@ pub tally_peak : (cut : Cut) (tolerance : Option ℕ) (cells : ℕ) (tally : Tal
     → IsTally cut tolerance cells tally → cells ≡ cut.cells
     → tally.peak ≡ peak_of cut.value cut.cells
 tally_peak cut tolerance cells tally known all =
-    is_peak (number_at cut.value) cut.cells tally.peak known.real.cell
-    (number_of cut tally.peak known.real)
+    is_peak (number_at cut.value) cut.cells tally.peak known.at_cell.cell
+    (number_of cut tally.peak known.at_cell)
     (λ cell h. known.most cell (omega arith) (omega arith))
 
 -- a span shows that none of its cells is above the tolerance, or that all are

@@ -168,7 +168,7 @@ lower_before value most cell first h earlier before = by_size (cases_lt value mo
 first_is : (f : ℕ → ℕ) (n : ℕ) (peak : Peak) → peak.cell < n → f peak.cell ≡ peak.value
     → NoneHigher f n peak
     → position_or_len (λ v. v == peak.value) (at_cells f n) ≡ peak.cell
-first_is f n peak within real most =
+first_is f n peak within at_cell most =
     position_or_len_is (λ v. v == peak.value) (at_cells f n) peak.cell 0
     (omega (arith, length-at_cells f n)) earlier here
   where
@@ -189,14 +189,14 @@ first_is f n peak within real most =
         cell_at f n peak.cell 0 within in
         grind (arith, nat_tests)
 
--- a real peak than which no cell is higher is the peak of the cells
+-- a peak at its cell than which no cell is higher is the peak of the cells
 pub is_peak : (f : ℕ → ℕ) (n : ℕ) (peak : Peak) → peak.cell < n → f peak.cell ≡ peak.value
     → NoneHigher f n peak
     → ◌≡◌ {A = Peak} peak (record {
       value = largest (at_cells f n);
       cell = first_largest (at_cells f n);
     })
-is_peak f n peak within real most =
+is_peak f n peak within at_cell most =
     let top : peak.value ≡ largest (at_cells f n) =
     omega (
       arith,
@@ -204,7 +204,7 @@ is_peak f n peak within real most =
       largest_at_most f n peak.value (λ cell h. (most cell h).value),
     ) in
     let first : peak.cell ≡ first_largest (at_cells f n) =
-    sym (first_is f n peak within real most)
+    sym (first_is f n peak within at_cell most)
     ∙ ap (λ m. position_or_len (λ v. v == m) (at_cells f n)) top in
     same_peak peak.value _ peak.cell _ top first
   where

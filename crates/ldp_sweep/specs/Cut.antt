@@ -17,19 +17,21 @@ abbrev pub first_cell : ℕ → Option Node → ℕ
 first_cell cells None = cells
 first_cell cells (Some node) = node.from
 
--- Nodes are listed from the last cells to the first, each after its parts. So many of them cover
--- the cells from this one on.
+-- Nodes are listed from the last cells to the first, each after its parts. This is the cell from
+-- which on the first so many of them cover the cells up to the end: the first cell of the last of
+-- these nodes; where there is none, the number of cells.
 abbrev pub start : ℕ → List Node → ℕ → ℕ
 start cells nodes zero = cells
 start cells nodes (suc count) = first_cell cells (slice_get nodes count)
 
--- a node at a place: its cells are those that the nodes in front of its parts leave, down to its
--- first, and its parts, where it has some, cover them
+-- A node at a place of such a list. The nodes before its `skip` cover the cells behind it
+-- (`behind`); the nodes from there to its own place are its parts, and where there are any, the
+-- last of them begins where the node does (`parts`).
 pub record IsNode (cells : ℕ) (nodes : List Node) (at : ℕ) (node : Node) : Type 0 where
-  pub back : node.skip ≤ at
+  pub skips_back : node.skip ≤ at
   pub ordered : node.from ≤ node.to
   pub inside : node.to ≤ cells
-  pub past : start cells nodes node.skip ≡ node.to
+  pub behind : start cells nodes node.skip ≡ node.to
   pub parts : node.skip < at → start cells nodes at ≡ node.from
 
 abbrev pub AreNodes : ℕ → List Node → Type 0
@@ -48,7 +50,7 @@ pub record IsWithin (value : ℕ → Option ℕ) (from to : ℕ) (span : Span) :
   pub low : (cell : ℕ) → from ≤ cell → cell < to → span.low ≤ number_at value cell
   pub high : (cell : ℕ) → from ≤ cell → cell < to → number_at value cell ≤ span.high
 
--- and those at the cells of the node at a place
+-- the values at the cells of the node at a place are defined and lie within a span
 abbrev pub IsSpan : Cut → ℕ → Span → Type 0
 IsSpan cut at span =
     (node : Node) → slice_get cut.nodes at ≡ Some node

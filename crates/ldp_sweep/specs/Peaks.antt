@@ -7,19 +7,19 @@ use Rattle.ldp_sweep.specs.declared.node.Node.{Node}
 use Rattle.ldp_sweep.specs.Cut.{Cut}
 use Rattle.ldp_sweep.specs.Tally.{number_at, over_of}
 
--- the left peak is not the higher
+-- a peak that is not higher than another
 pub record IsAtMost (left right : Peak) : Type 0 where
   pub value : left.value ≤ right.value
   pub cell : left.value ≡ right.value → right.cell ≤ left.cell
 
--- nor is any cell from one to another higher than this peak
+-- no cell from one to another has a higher peak than this
 abbrev pub AreNoHigher : (ℕ → Option ℕ) → ℕ → ℕ → Peak → Type 0
 AreNoHigher value from to peak =
     (cell : ℕ) → from ≤ cell → cell < to
     → IsAtMost (record { value = number_at value cell; cell = cell }) peak
 
--- it is the value at one of the cells
-pub record IsReal (cut : Cut) (peak : Peak) : Type 0 where
+-- a peak of these cells: its value is the value at its cell
+pub record IsAtCell (cut : Cut) (peak : Peak) : Type 0 where
   pub cell : peak.cell < cut.cells
   pub value : cut.value peak.cell ≡ Some peak.value
   pub small : peak.value ≤ cut.limit
@@ -29,7 +29,7 @@ pub record IsReal (cut : Cut) (peak : Peak) : Type 0 where
 pub record IsTally (cut : Cut) (tolerance : Option ℕ) (cells : ℕ) (tally : Tally) : Type 0 where
   pub defined : (cell : ℕ) → cell < cells → IsSome (cut.value cell)
   pub over : tally.over ≡ over_of cut.value tolerance cells
-  pub real : IsReal cut tally.peak
+  pub at_cell : IsAtCell cut tally.peak
   pub most : AreNoHigher cut.value 0 cells tally.peak
 
 -- the values at a node's cells are defined and no higher than the peak, and so many more are above

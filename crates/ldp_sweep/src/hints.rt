@@ -1,14 +1,14 @@
 ghost use Rattle.std.specs.Prelude.{◌≡◌, ◌<◌, IfSome, IfNone, IfOk, IfErr, None};
-ghost use Rattle.ldp_sweep.specs.Peaks.{IsReal, IsFirstUndefined};
+ghost use Rattle.ldp_sweep.specs.Peaks.{IsAtCell, IsFirstUndefined};
 
 use crate::peak::Peak;
 use crate::sweep::Sweep;
-use crate::tally::Undefined;
+use crate::undefined::Undefined;
 
 /// The highest of the first cell and the hints, as far as these are cells with a value.
 pub(crate) fn hinted<S: Sweep>(sweep: &mut S, hints: &[u32]) -> Result<Peak, Undefined>
     requires { 0 < (S.cut sweep.old).cells }
-    ensures real { IfOk result (IsReal (S.cut sweep.old)) }
+    ensures at_cell { IfOk result (IsAtCell (S.cut sweep.old)) }
     ensures undefined { IfErr result (λ e. IsFirstUndefined (S.cut sweep.old) e.cell) }
     ensures same { S.cut sweep.new ≡ S.cut sweep.old }
 {
@@ -24,7 +24,7 @@ pub(crate) fn hinted<S: Sweep>(sweep: &mut S, hints: &[u32]) -> Result<Peak, Und
 }
 
 fn hint_at<S: Sweep>(sweep: &mut S, hint: u32) -> Option<Peak>
-    ensures real { IfSome result (IsReal (S.cut sweep.old)) }
+    ensures at_cell { IfSome result (IsAtCell (S.cut sweep.old)) }
     ensures same { S.cut sweep.new ≡ S.cut sweep.old }
 {
     if hint < sweep.cells() {
@@ -36,7 +36,7 @@ fn hint_at<S: Sweep>(sweep: &mut S, hint: u32) -> Option<Peak>
 /// The value at a cell with that cell.
 pub(crate) fn peak_at<S: Sweep>(sweep: &mut S, cell: u32) -> Option<Peak>
     requires { cell < (S.cut sweep.old).cells }
-    ensures real { IfSome result (IsReal (S.cut sweep.old)) }
+    ensures at_cell { IfSome result (IsAtCell (S.cut sweep.old)) }
     ensures cell { IfSome result (λ peak. peak.cell ≡ cell) }
     ensures undefined { IfNone result ((S.cut sweep.old).value cell ≡ None) }
     ensures same { S.cut sweep.new ≡ S.cut sweep.old }

@@ -11,11 +11,13 @@ mod span;
 mod sweep;
 mod tally;
 mod tree;
+mod undefined;
 
 pub use node::Node;
 pub use peak::Peak;
 pub use span::Span;
 pub use std::alloc::AllocError as Memory;
 pub use sweep::Sweep;
-pub use tally::{Tally, Undefined, tally_of};
+pub use tally::{Tally, tally_of};
 pub use tree::nodes_of;
+pub use undefined::Undefined;

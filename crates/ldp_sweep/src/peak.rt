@@ -2,7 +2,9 @@
 /// of equal values that of the earlier cell.
 #[derive(Clone, Copy, Debug, PartialEq, Eq)]
 pub struct Peak {
+    /// The value.
     pub value: u128,
+    /// The cell, by its number.
     pub cell: u32,
 }
 

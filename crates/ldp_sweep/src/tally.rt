@@ -10,19 +10,16 @@ use crate::node::Node;
 use crate::peak::Peak;
 use crate::span::Span;
 use crate::sweep::Sweep;
+use crate::undefined::Undefined;
 
 /// What is told of the values at cells: how many are above the tolerance, and the greatest with
 /// the first cell that has it.
 #[derive(Clone, Copy, Debug, PartialEq, Eq)]
 pub struct Tally {
+    /// How many values are above the tolerance.
     pub over: u32,
+    /// The greatest value and the first cell that has it.
     pub peak: Peak,
-}
-
-/// The first cell whose value is undefined.
-#[derive(Clone, Copy, Debug, PartialEq, Eq)]
-pub struct Undefined {
-    pub cell: u32,
 }
 
 /// What is told of the values at all cells, if all are defined. Without a tolerance none is above

@@ -9,8 +9,8 @@ use std::alloc::Global;
 /// The most cells of a stretch that has no parts.
 const MOST_CELLS: u32 = 8;
 
-/// The nodes over so many cells: a stretch of more than eight is cut into four of about equal
-/// length.
+/// Nodes over so many cells. A stretch of more than eight cells is cut into four parts at most, all
+/// of one length but the first, which may be shorter. No clause tells how cells are cut.
 pub fn nodes_of(alloc: Global, cells: u32) -> Result<Vec<Node>, Memory>
     requires { 0 < cells }
     ensures { IfOk result (λ nodes. IsCut cells nodes.items) }

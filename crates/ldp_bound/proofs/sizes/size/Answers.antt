@@ -3,8 +3,8 @@ use Rattle.std.specs.Prelude.{Option}
 use Rattle.ldp_bound.proofs.Sweeps.{same_sizes}
 use Rattle.ldp_bound.proofs.sizes.size.Goals as goal
 
-pub returns-clause-value : goal.returns-clause-value
-returns-clause-value c =
+pub returns : goal.returns
+returns c =
     c.size_at.ensures.value
     ∙ sym (ap (λ (f : ℕ → Option ℕ). f c.args.cell)
     (same_sizes c.args.kept.now.grids c.args.kept.now.kinds c.args.d.now

@@ -14,5 +14,6 @@ returns-in-Ok-clause-value c =
 pub returns-in-Err-clause-value : goal.returns-in-Err-clause-value
 returns-in-Err-clause-value c =
     let s = c.args.sweep.now in
-    design_undefined (size_from s.cells (numbers s.design)) c.args.tolerance s.count c.in-Err.undefined.cell
+    design_undefined (size_from s.cells (numbers s.design)) c.args.tolerance s.count
+    c.in-Err.undefined.cell
     c.in-Err.ensures.undefined

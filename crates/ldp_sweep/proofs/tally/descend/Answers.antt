@@ -38,7 +38,8 @@ pub returns-in-Some-clause-left : goal.returns-in-Some-clause-left
 returns-in-Some-clause-left g c =
     omega (
       arith,
-      (c.requires.cut.each (c.args.height - 1) c.node_at-node.result c.node_at-node.ensures).back,
+      (c.requires.cut.each (c.args.height - 1) c.node_at-node.result
+          c.node_at-node.ensures).skips_back,
     )
 
 pub returns-in-Some-clause-tally : goal.returns-in-Some-clause-tally
@@ -57,9 +58,9 @@ returns-in-Some-clause-tally g c =
       over = c.args.tally.now.over + c.in-Some.more;
       peak = c.args.tally.now.peak;
     } in
-    let past : start cut.cells cut.nodes node.skip ≡ node.to =
-    (c.requires.cut.each (c.args.height - 1) node c.node_at-node.ensures).past in
-    subst (λ n. IsTally cut c.args.tolerance n new) (sym past)
+    let behind : start cut.cells cut.nodes node.skip ≡ node.to =
+    (c.requires.cut.each (c.args.height - 1) node c.node_at-node.ensures).behind in
+    subst (λ n. IsTally cut c.args.tolerance n new) (sym behind)
     (tally_passed cut c.args.tolerance node c.args.tally.now new c.in-Some.more known passed refl
     refl)
 
@@ -99,9 +100,10 @@ returns-clause-tally g c =
     let node : Node = c.node_at-node.result in
     let known : IsNode cut.cells cut.nodes (c.args.height - 1) node =
     c.requires.cut.each (c.args.height - 1) node c.node_at-node.ensures in
-    let here : c.args.height - 1 ≡ node.skip = omega (arith, known.back, c.if-node-at.false) in
-    let past : start cut.cells cut.nodes (c.args.height - 1) ≡ node.to =
-    ap (start cut.cells cut.nodes) here ∙ known.past in
-    subst (λ n. IsTally cut c.args.tolerance n c.look_at.new.tally) (sym past)
+    let here : c.args.height - 1 ≡ node.skip =
+    omega (arith, known.skips_back, c.if-node-at.false) in
+    let behind : start cut.cells cut.nodes (c.args.height - 1) ≡ node.to =
+    ap (start cut.cells cut.nodes) here ∙ known.behind in
+    subst (λ n. IsTally cut c.args.tolerance n c.look_at.new.tally) (sym behind)
     (subst (λ (now : Cut). IsTally now c.args.tolerance node.to c.look_at.new.tally)
     c.span-span.ensures.same c.in_ok-look_at.ensures.tally)

@@ -8,8 +8,8 @@ use Rattle.ldp_bound.specs.Tally.{single_bound}
 use Rattle.ldp_bound.proofs.Told.{cost_told, first_admitted, single_told, low_told}
 use Rattle.ldp_bound.proofs.cell_by_cell.CellByCellBounds.bound.Goals as goal
 
-pub cost-cost-requires-clause-admitted : goal.cost-cost-requires-clause-admitted
-cost-cost-requires-clause-admitted c =
+pub cost-cost-requires : goal.cost-cost-requires
+cost-cost-requires c =
     subst (IsAdmitted c.args.self.now.kept.grids) (sym c.first_of.ensures)
     (first_admitted c.args.self.now.kept.grids c.args.b.now c.requires)
 

@@ -1,16 +1,16 @@
 use Rattle.std.proofs.Common.{subst}
 use Rattle.std.proofs.lemmas.Option.{IfSome_then}
 use Rattle.std.specs.Prelude.{IfSome}
+use Rattle.ldp_num.specs.declared.fix.Fix.{Fix}
 use Rattle.ldp_sweep.specs.Cut.{IsSpan}
-use Rattle.ldp_bound.specs.Sweeps.{SweptDesign, design_cut, front}
+use Rattle.ldp_bound.specs.Sweeps.{Swept, design_cut, front}
 use Rattle.ldp_bound.proofs.Sweeps.{design_within}
 use Rattle.ldp_bound.proofs.design_sweep.DesignSweepSweep.span.Goals as goal
 
 pub returns-clause-within : goal.returns-clause-within
 returns-clause-within c =
     let s = c.self.inside in
-    let p = s.prepared.now in
-    subst (λ (v : SweptDesign). IfSome c.span_at.result (IsSpan (design_cut v) c.args.at)) c.self.view_is
-    (IfSome_then c.span_at.result c.span_at.ensures.spans
-    (λ span spans. design_within p (front p s.inputs) (front p s.twin_inputs)
-    s.stretches.now.nodes.items c.args.at span c.self.invariant.1.held spans))
+    subst (λ (v : Swept Fix). IfSome c.span.result (IsSpan (design_cut v) c.args.at)) c.self.view_is
+    (IfSome_then c.span.result c.span.ensures.spans
+    (λ span spans. design_within s.spans.cells (front s.spans.cells s.inputs) s.spans.twins
+    s.spans.nodes c.args.at span c.self.invariant.1 spans))

@@ -8,8 +8,8 @@ pub returns-clause-ready : goal.returns-clause-ready
 returns-clause-ready c = record {
   full =
       c.args.self.now.full.full c.family.result.now.kind
-      (is_south c.family.result.now) c.in_ok-stretched.stretched.now
-      (sym c.in_ok-stretched.ensures);
+      (is_south c.family.result.now) c.in_ok-cells.cells.now
+      (sym c.in_ok-cells.ensures);
   room = subst (λ (p : PreparedCells). HasRoom p.lists most_steps) c.prepared.ensures
       c.lists.ensures.room;
   inputs = subst (λ (p : PreparedCells). p.lists.joint.inputs ≤ 16) c.prepared.ensures

@@ -1,10 +1,8 @@
-use Rattle.std.proofs.Common.{◌≡◌, ◌≤◌, ◌+◌, ◌-◌, ℕ, List, get_or, length, arith, refl, ap, sym, subst, ◌∙◌, take, drop, ℤ}
-use Rattle.std.proofs.lemmas.List.{length-drop}
-use Rattle.std.proofs.lemmas.Option.{slice_get-get_or, slice_get_read}
-use Rattle.std.specs.Prelude.{Option, Some, slice_get}
+use Rattle.std.proofs.Common.{◌≡◌, ℕ, List, length, arith, ap, sym, ◌∙◌, take, drop, ℤ}
+use Rattle.std.proofs.lemmas.Option.{slice_get_read}
+use Rattle.std.specs.Prelude.{Some}
 use Rattle.ldp_series.specs.declared.list.Lists.{Lists}
-use Rattle.ldp_sweep.specs.declared.node.Node.{Node}
-use Rattle.ldp_stretch.specs.Hulls.{IsHull, width_of}
+use Rattle.ldp_stretch.specs.Hulls.{width_of}
 use Rattle.ldp_stretch.proofs.Columns.{hull_holds, hull_at}
 use Rattle.ldp_stretch.proofs.stretches.Stretches.hull.Goals as goal
 
@@ -38,7 +36,8 @@ returns-clause-holds c =
     let width : length c.outs-width.result.now ≡ width_of p =
     ap length c.outs-width.ensures.outs
     ∙ ap (λ (l : Lists). length l.cell.outs) c.lists.ensures.lists in
-    let part : c.split_at-2.result.0.now ≡ take (width_of p) (drop c.in_ok-begin.begin s.ranges.items) =
+    let part : c.split_at-2.result.0.now
+    ≡ take (width_of p) (drop c.in_ok-begin.begin s.ranges.items) =
     c.split_at-2.ensures.front
     ∙ ap (λ (xs : List (ℤ × ℤ)). take (length c.outs-width.result.now) xs)
     (c.split_at.ensures.back
