@@ -1,6 +1,7 @@
 -- The certificate of the design that a search has found, and the answer.
 use Rattle.std.proofs.Common.{◌≡◌, ◌≤◌, ◌<◌, ◌^◌, ℕ, ℤ, pos, false, List, length, arith, refl}
-use Rattle.std.proofs.Common.{Option, None, Some, Ok, Err, IfSome, sym, ap, subst, ◌∙◌, inl, inr, []}
+use Rattle.std.proofs.Common.{Option, None, Some, Ok, Err, IfSome, sym, ap, subst, ◌∙◌, inl, inr}
+use Rattle.std.proofs.Common.{[], Result, IfErr}
 use Rattle.std.proofs.lemmas.Bool.Decides.{nat_tests}
 use Rattle.std.proofs.lemmas.Int.{ints}
 use Rattle.std.specs.Prelude.{option_map, unsigned_abs, nat_lt, if◌then◌else◌}
@@ -27,9 +28,11 @@ use Rattle.ldp_agreement.specs.Texts.{IsPrintable, AreValues}
 use Rattle.ldp_agreement.proofs.Certificates.{best_are_accepted}
 use Rattle.ldp_agreement.proofs.Texts.{best_have_texts, best_are_read_back}
 use Rattle.ldp_message.specs.declared.refusal.Refusal.TheVariants.{BudgetSpent}
+use Rattle.ldp_answer.specs.declared.fault.WorkFault.{WorkFault}
+use Rattle.ldp_answer.specs.Works.{Works}
 use Rattle.ldp_answer.specs.Check.{tolerance_of}
 use Rattle.ldp_answer.specs.Design.{certificate, certificate_with, best_certificate, search_job}
-use Rattle.ldp_answer.specs.Design.{share_with, AreNamed, IsAcceptedJob}
+use Rattle.ldp_answer.specs.Design.{AreNamed, IsAcceptedJob}
 
 -- what is known of the job that is printed
 pub record IsPrinted (p : Problem) (list : CellList) (names : Option Names) (tolerance : Option ℤ)
@@ -39,38 +42,22 @@ pub record IsPrinted (p : Problem) (list : CellList) (names : Option Names) (tol
   pub names_are : j.names ≡ names
   pub design : j.design ≡ f.design
   pub worst : j.worst ≡ f.worst
-  pub share : j.share ≡ share_with tolerance f.over
+  pub share : j.share ≡ share_of (option_map unsigned_abs tolerance) f.over
   pub report : report_of p.families list f.design f.worst f.cell f.nodes ≡ Some j.report
   pub forest_is : j.forest ≡ f.forest
-
-units : Option ℤ → Option ℕ
-units tolerance = option_map unsigned_abs tolerance
-
-ranked : Problem → Found → Ranked
-ranked p f = record { design = f.design; cost = cost p f.design }
-
-pub shares_agree : (tolerance : Option ℤ) (over : ℕ) → IfSome tolerance (IsBetween (pos 0) (pos (10 ^ 15)))
-    → share_with tolerance over ≡ share_of (option_map unsigned_abs tolerance) over
-shares_agree None over h = refl
-shares_agree (Some t) over h =
-    let same : t ≡ pos (unsigned_abs t) = omega (arith, ints, h.0) in
-    ap (λ z. Some record { over = over; tolerance = z }) same
 
 pub is_certificate : (p : Problem) (list : CellList) (names : Option Names) (present : Names)
     (tolerance : Option ℤ) (budget : ℕ) (f : Found) (j : Job)
     → IsPrinted p list names tolerance budget f j → AreNamed names present
-    → IfSome tolerance (IsBetween (pos 0) (pos (10 ^ 15)))
     → p.tolerance ≡ option_map unsigned_abs tolerance
     → IsCertificateOf p list present (record { design = f.design; cost = cost p f.design }) j
-is_certificate p list names present tolerance budget f j h named within e = record {
+is_certificate p list names present tolerance budget f j h named e = record {
   names = subst (λ n. AreNamed n present) (sym h.names_are) named;
   design = h.design;
   worst = h.worst ∙ h.cost.worst;
-  share = h.share ∙ shares_agree tolerance f.over within
-      ∙ ap (λ t. share_of t f.over) (sym e)
-      ∙ ap (share_of p.tolerance) h.cost.over;
-  report = subst (λ worst. report_of p.families list f.design worst (worst_cell p f.design) (needed p)
-      ≡ Some j.report) h.cost.worst
+  share = h.share ∙ ap (λ t. share_of t f.over) (sym e) ∙ ap (share_of p.tolerance) h.cost.over;
+  report = subst (λ worst. report_of p.families list f.design worst (worst_cell p f.design)
+      (needed p) ≡ Some j.report) h.cost.worst
       (subst (λ cell. report_of p.families list f.design f.worst cell (needed p) ≡ Some j.report)
       h.cost.cell
       (subst (λ nodes. report_of p.families list f.design f.worst f.cell nodes ≡ Some j.report)
@@ -128,8 +115,8 @@ printable families list tolerance budget g some few within enough most = record 
     small (Some z) h = omega (arith, ints, h.0, h.1)
 
 -- the tolerance of the job is that of the words
-tolerance_again : (tolerance : Option ℤ) (over : ℕ)
-    → tolerance_of (share_with tolerance over) ≡ option_map unsigned_abs tolerance
+tolerance_again : (tolerance : Option ℕ) (over : ℕ)
+    → tolerance_of (share_of tolerance over) ≡ tolerance
 tolerance_again None over = refl
 tolerance_again (Some t) over = refl
 
@@ -156,7 +143,7 @@ module _ (families : List Family) (list : CellList) (names : Option Names) (tole
   certified : (present : Names) → AreNamed names present
       → IsCertificateOf problem list present best_of j
   certified present named =
-      is_certificate problem list names present tolerance budget f j h.printed named h.within refl
+      is_certificate problem list names present tolerance budget f j h.printed named refl
 
   prints : IsPrintable problem
   prints =
@@ -174,7 +161,9 @@ module _ (families : List Family) (list : CellList) (names : Option Names) (tole
       h.printed.found.enough (certified (present_of names) (named_so names)) h.printed.names_are
 
   same_tolerance : tolerance_of j.share ≡ option_map unsigned_abs tolerance
-  same_tolerance = ap tolerance_of h.printed.share ∙ tolerance_again tolerance f.over
+  same_tolerance =
+      ap tolerance_of h.printed.share
+      ∙ tolerance_again (option_map unsigned_abs tolerance) f.over
 
   pub accepted_job : (present : Names) → AreNamed names present
       → IsAcceptedJob list families present j
@@ -191,3 +180,15 @@ module _ (families : List Family) (list : CellList) (names : Option Names) (tole
         read = back.0;
         short = back.1;
       }
+
+-- what a refusal says over one problem, it says over an equal one
+pub refused_over : (result : Result Found WorkFault) (p q : Problem) (list : CellList)
+    (budget : ℕ) → p ≡ q
+    → IfErr result (λ fault. (cells : CellList) (names : Option Names)
+    → Works {A = Job} (Err fault) (search_job p cells names budget))
+    → IfErr result (λ fault. (names : Option Names)
+    → Works {A = Job} (Err fault) (search_job q list names budget))
+refused_over (Ok found) p q list budget e h = tt
+refused_over (Err fault) p q list budget e h = λ names.
+    subst (λ (of : Problem). Works {A = Job} (Err fault) (search_job of list names budget)) e
+    (h list names)

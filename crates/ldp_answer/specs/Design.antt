@@ -1,7 +1,6 @@
 -- What `design` answers over cells and design grids. Own choice of this project.
-use Rattle.std.specs.Prelude.{◌≡◌, ◌≤◌, ◌⊎◌, ℕ, ℤ, pos, nat_lt, List, length, false, Option, Some, None}
-use Rattle.std.specs.Prelude.{option_map, Result, Ok, Err}
-use Rattle.std.specs.Prelude.{if◌then◌else◌}
+use Rattle.std.specs.Prelude.{◌≡◌, ◌≤◌, ◌⊎◌, ℕ, pos, nat_lt, List, length, false}
+use Rattle.std.specs.Prelude.{Option, Some, None, Result, Ok, Err, if◌then◌else◌}
 use Rattle.ldp_quantity.specs.Results.{◌>>=◌}
 use Rattle.ldp_design.specs.declared.family.Family.{Family}
 use Rattle.ldp_cells.specs.Cells.{CellList}
@@ -12,7 +11,6 @@ use Rattle.ldp_optimum.specs.Best.{Ranked, best}
 use Rattle.ldp_optimum.specs.Forest.{forest, needed}
 use Rattle.ldp_job.specs.declared.names.Names.{Names}
 use Rattle.ldp_job.specs.declared.report.Report.{Report}
-use Rattle.ldp_job.specs.declared.share.Share.{Share}
 use Rattle.ldp_job.specs.declared.job.Job.{Job}
 use Rattle.ldp_job.specs.Texts.{job_text}
 use Rattle.ldp_job.specs.Reading.{job}
@@ -36,7 +34,7 @@ certificate p names x report = record {
   forest = forest p;
 }
 
--- the certificate with a report; that of the best design is there
+-- the certificate with a report; that of the best design is there, so the second case does not come
 abbrev pub certificate_with : Problem → Option Names → Ranked → Option Report → Result Job Refusal
 certificate_with p names x (Some report) = Ok (certificate p names x report)
 certificate_with p names x None = Err refusals.NoUsableDesign
@@ -69,26 +67,21 @@ design_over list families names budget tolerance = do
   j ← job_over list families (Some names) budget tolerance
   Ok (job_answer j)
 
--- where cells beyond a tolerance are counted, their number and the tolerance
-abbrev pub share_with : Option ℤ → ℕ → Option Share
-share_with tolerance over = option_map (λ t. record { over = over; tolerance = t }) tolerance
-
 -- the files that are present are those of a job's names, or it has none
 abbrev pub AreNamed : Option Names → Names → Type 0
 AreNamed names present = (names ≡ None) ⊎ (names ≡ Some present)
 
--- the checker accepts the job over these cells, grids and hashes
+-- the checker accepts the job over these cells, grids and hashes, and its text is read back to it
+-- and is short enough for a file
 pub record IsAcceptedJob (list : CellList) (families : List Family) (present : Names)
     (j : Job) : Type 0 where
   pub verdict : verdict_over list families present j ≡ Accepted
   pub read : job (job_text j) ≡ Ok j
   pub short : length (job_text j) ≤ 128_000_000
 
--- the text is that of a job that the checker accepts over the same cells, grids and hashes, and it
--- is short enough for a file
+-- the text is that of such a job
 pub record IsAcceptedText (list : CellList) (families : List Family) (names : Names)
     (text : List ℕ) : Type 0 where
   pub accepted : Job
-  pub read : job text ≡ Ok accepted
-  pub verdict : verdict_over list families names accepted ≡ Accepted
-  pub short : length text ≤ 128_000_000
+  pub is : IsAcceptedJob list families names accepted
+  pub same : text ≡ job_text accepted

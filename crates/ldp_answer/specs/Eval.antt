@@ -21,7 +21,7 @@ unfoldable pub central_worst : CellList → CentralDesign → Worst
 central_worst list design =
     worst_of (distortions transverse_mercator (central_inputs design) list.cells)
 
--- the answer for a worst at one of the cells
+-- the answer for a worst at one of the cells; a worst names one, so the second case does not come
 abbrev pub answer_at : CellList → ℤ → Option Cell → Result Answer Refusal
 answer_at list value (Some cell) =
     Ok record {
@@ -30,7 +30,7 @@ answer_at list value (Some cell) =
     }
 answer_at list value None = Err refusals.NoUsableDesign
 
--- the answer for a worst; it names one of the cells
+-- the answer for a worst
 abbrev pub worst_answer : CellList → Worst → Result Answer Refusal
 worst_answer list (Is value cell) = answer_at list value (slice_get list.cells cell)
 worst_answer list (Unusable cell) = Err refusals.NoUsableDesign

@@ -1,7 +1,7 @@
 -- The inputs of `sample N`: a zone, heights over it, and a family of N times N designs. Own choice
 -- of this project.
-use Rattle.std.specs.Prelude.{ℕ, zero, suc, ◌+◌, ◌*◌, ◌/◌, ◌%◌, ◌^◌, ◌==◌, ◌≤◌, pos, neg_ℤ, List, []}
-use Rattle.std.specs.Prelude.{◌∷◌, ◌++◌, codes, decimal, if◌then◌else◌}
+use Rattle.std.specs.Prelude.{ℕ, zero, suc, ◌+◌, ◌*◌, ◌/◌, ◌%◌, ◌^◌, ◌==◌, ◌≤◌, pos, neg_ℤ}
+use Rattle.std.specs.Prelude.{List, [], ◌∷◌, ◌++◌, codes, decimal, if◌then◌else◌}
 use Rattle.std.specs.List.{flat_map, range_with_len}
 use Rattle.ldp_quantity.specs.Quantity.{degrees, tenths}
 use Rattle.ldp_design.specs.declared.family.Kind.TheVariants.{Tm}

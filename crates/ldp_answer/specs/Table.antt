@@ -40,13 +40,13 @@ form_text Json list found =
     json_text (rows_of list.cells found) list.missing (worst_value (worst_of found))
 
 -- the same by the worst of the design, which is its first undefined cell where there is one
-abbrev pub worst_answer : TableForm → CellList → List (Option ℤ) → Worst → Answer
-worst_answer form list found (Is value cell) =
+abbrev pub table_of_worst : TableForm → CellList → List (Option ℤ) → Worst → Answer
+table_of_worst form list found (Is value cell) =
     record { rejected = false; text = form_text form list found }
-worst_answer form list found (Unusable cell) = rejection (DesignUnusable cell)
+table_of_worst form list found (Unusable cell) = rejection (DesignUnusable cell)
 
 abbrev pub found_answer : TableForm → CellList → List (Option ℤ) → Answer
-found_answer form list found = worst_answer form list found (worst_of found)
+found_answer form list found = table_of_worst form list found (worst_of found)
 
 abbrev pub design_answer : TableForm → CellList → Design → Option Family → Answer
 design_answer form list d None = rejection NotAdmissible

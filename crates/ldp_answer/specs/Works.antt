@@ -5,7 +5,8 @@ use Rattle.ldp_cells.specs.declared.fault.CellsFault.TheVariants as cells
 use Rattle.ldp_search.specs.declared.fault.SearchFault.{SearchFault}
 use Rattle.ldp_search.specs.declared.fault.SearchFault.TheVariants as searches
 use Rattle.ldp_message.specs.declared.refusal.Refusal.{Refusal}
-use Rattle.ldp_message.specs.declared.refusal.Refusal.TheVariants.{RefusedCells, BudgetSpent, NoUsableDesign}
+use Rattle.ldp_message.specs.declared.refusal.Refusal.TheVariants.{RefusedCells, BudgetSpent}
+use Rattle.ldp_message.specs.declared.refusal.Refusal.TheVariants.{NoUsableDesign}
 use Rattle.ldp_answer.specs.declared.fault.WorkFault.{WorkFault}
 use Rattle.ldp_answer.specs.declared.fault.WorkFault.TheVariants as faults
 

@@ -10,9 +10,10 @@ ghost use Rattle.ldp_job.specs.declared.names.Names.{Names as NamesValue};
 ghost use Rattle.ldp_check.specs.Reports.{report_of};
 ghost use Rattle.ldp_bound.specs.Plain.{plain_problem};
 ghost use Rattle.ldp_search.specs.Search.{IsFound, HasCost};
+ghost use Rattle.ldp_agreement.specs.Certificates.{share_of};
 ghost use Rattle.ldp_agreement.specs.Texts.{AreValues};
 ghost use Rattle.ldp_answer.specs.Works.{Works};
-ghost use Rattle.ldp_answer.specs.Design.{search_job, job_over, design_over, share_with};
+ghost use Rattle.ldp_answer.specs.Design.{search_job, job_over, design_over};
 ghost use Rattle.ldp_answer.specs.Design.{AreNamed, IsAcceptedJob, IsAcceptedText};
 
 use crate::answer::Answer;
@@ -94,7 +95,8 @@ fn found_over(
     ensures cost { IfOk result (HasCost
         (plain_problem grids.now cells.now.cells (option_map unsigned_abs tolerance))) }
     ensures number { IfOk result (λ f. IsWorst f.worst) }
-    ensures refused { IfErr result (λ fault. (names : Option NamesValue) → Works (Err fault) (search_job
+    ensures refused { IfErr result (λ fault. (names : Option NamesValue)
+        → Works (Err fault) (search_job
         (plain_problem grids.now cells.now.cells (option_map unsigned_abs tolerance))
         cells.now names budget)) }
 {
@@ -124,9 +126,11 @@ fn found_by(
     Ok(Found { worst, ..found })
 }
 
-/// The worst of the design that was found, as the bounder tells it: a number of at most 10^19 units.
+/// The worst of the design that was found, as the bounder tells it: a number of at most 10^19
+/// units.
 fn worst_of(bounds: &mut Plain, found: &Found) -> i128
-    requires admitted { IsAdmitted (⟦<Plain as Bounds>⟧.problem bounds.old).families found.now.design }
+    requires admitted { IsAdmitted (⟦<Plain as Bounds>⟧.problem bounds.old).families
+        found.now.design }
     requires usable { IsUsable (⟦<Plain as Bounds>⟧.problem bounds.old) found.now.design }
     requires cost { HasCost (⟦<Plain as Bounds>⟧.problem bounds.old) found.now }
     ensures same { result ≡ found.now.worst }
@@ -180,11 +184,12 @@ fn job_of(
     requires admitted { IsAdmitted grids.now found.design }
     requires cell { found.cell < length cells.now.cells }
     requires names { IfSome names AreNames }
+    requires tolerance { IfSome tolerance (IsBetween (pos 0) (pos (10 ^ 15))) }
     requires worst { IsWorst found.worst }
     ensures names { result.names ≡ names }
     ensures design { result.design ≡ found.design }
     ensures worst { result.worst ≡ found.worst }
-    ensures share { result.share ≡ share_with tolerance found.over }
+    ensures share { result.share ≡ share_of (option_map unsigned_abs tolerance) found.over }
     ensures report { report_of grids.now cells.now found.design found.worst found.cell found.nodes
         ≡ Some result.report }
     ensures forest { result.forest ≡ found.forest }
@@ -208,8 +213,10 @@ fn job_of(
     }
 }
 
+/// Where cells beyond a tolerance are counted, their number and the tolerance.
 fn share_with(tolerance: Option<i128>, over: u32) -> Option<Share>
-    ensures { result ≡ share_with tolerance over }
+    requires { IfSome tolerance (IsBetween (pos 0) (pos (10 ^ 15))) }
+    ensures { result ≡ share_of (option_map unsigned_abs tolerance) over }
 {
     match tolerance {
         Some(tolerance) => Some(Share { over, tolerance }),

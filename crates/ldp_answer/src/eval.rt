@@ -12,12 +12,9 @@ use ldp_cells::Cells;
 use ldp_distortion::{Prepared, Worst};
 use ldp_heights::Heights;
 use ldp_message::Refusal;
-use ldp_num::Bench;
+use ldp_num::{Bench, MOST_STEPS};
 use ldp_tm::lists;
 use std::alloc::{AllocError, Global};
-
-/// The most steps of a list.
-const MOST_STEPS: usize = 4096;
 
 /// What `eval` prints: the worst of one transverse Mercator design over the cells of a grid.
 pub fn eval_over(alloc: Global, grid: &Heights, design: &Central) -> Result<Answer, WorkFault>

@@ -57,13 +57,13 @@ fn sample_text(alloc: Global, number: u32, job: &Job, checked: &[u8]) -> Result<
 {
     let certificate = write_job(alloc, job)?;
     let mut text = Text::new(alloc);
-    push_number(&mut text, number)?;
+    push_sample_line(&mut text, number)?;
     push_report(&mut text, certificate.bytes())?;
     text.push(checked)?;
     Ok(text)
 }
 
-fn push_number(text: &mut Text, number: u32) -> Result<(), Memory>
+fn push_sample_line(text: &mut Text, number: u32) -> Result<(), Memory>
     ensures { OnOk result (text.new ≡ text.old ++ sample_line number) }
 {
     text.push(b"sample ")?;

@@ -9,10 +9,10 @@ use Rattle.ldp_cli.specs.Files.{Asked, ServesFrom}
 use Rattle.ldp_cli.specs.Eval.{eval_request, eval_files, eval_answer}
 use Rattle.ldp_cli.specs.Certificate.{job_request, job_files, IsShown}
 use Rattle.ldp_cli.specs.Check.{check_answer, upgrade_answer, IsUpgraded}
-use Rattle.ldp_cli.specs.Design.{design_request, design_files, design_answer, IsFound}
+use Rattle.ldp_cli.specs.Design.{design_request, design_files, design_answer, IsCertified}
 use Rattle.ldp_cli.specs.Table.{table_request, table_files, table_answer}
 use Rattle.ldp_cli.specs.Wkt.{wkt_request, wkt_files, wkt_answer}
-use Rattle.ldp_cli.specs.Sample.{sample_request, sample_answer, IsSampled}
+use Rattle.ldp_cli.specs.Sample.{SampleRequest, sample_request, sample_answer, IsSampled}
 use Rattle.ldp_cli.specs.declared.commands.Request.{Request}
 use Rattle.ldp_cli.specs.declared.commands.Request.TheVariants.{Eval, Design, Check, Upgrade}
 use Rattle.ldp_cli.specs.declared.commands.Request.TheVariants.{Table, Wkt, Sample}
@@ -58,7 +58,7 @@ answer_to (Sample asked) files = sample_answer asked
 abbrev pub Shows : Option Request → Files → Type 0
 Shows None files = Unit {0}
 Shows (Some (Eval asked)) files = Unit {0}
-Shows (Some (Design asked)) files = IsFound asked files
+Shows (Some (Design asked)) files = IsCertified asked files
 Shows (Some (Check asked)) files = IsShown asked files
 Shows (Some (Upgrade asked)) files = IsUpgraded asked files
 Shows (Some (Table asked)) files = Unit {0}
@@ -69,6 +69,17 @@ Shows (Some (Sample asked)) files = IsSampled asked
 abbrev pub asked_in : Option Request → List Asked
 asked_in None = []
 asked_in (Some asked) = files_of asked
+
+-- the sample that is asked for, if it is one
+abbrev pub sampled_in : Option Request → Option SampleRequest
+sampled_in None = None
+sampled_in (Some (Eval asked)) = None
+sampled_in (Some (Design asked)) = None
+sampled_in (Some (Check asked)) = None
+sampled_in (Some (Upgrade asked)) = None
+sampled_in (Some (Table asked)) = None
+sampled_in (Some (Wkt asked)) = None
+sampled_in (Some (Sample asked)) = Some asked
 
 -- the shelf serves the files that the words name
 abbrev pub Serves : (ℕ → List ℕ → Bool) → List (List ℕ) → Type 0

@@ -44,7 +44,7 @@ design_answer asked files = do
 
 -- the printed text, taken as a job over the same three files, whatever the names of the files are,
 -- is accepted
-pub record IsFound (asked : DesignRequest) (files : Files) : Type 0 where
+pub record IsCertified (asked : DesignRequest) (files : Files) : Type 0 where
   pub text : List ℕ
   pub is_printed : design_answer asked files ≡ Ok record { rejected = false; text = text }
   pub is_accepted : (again : JobRequest) (later : Files)

@@ -1,6 +1,7 @@
 -- What the words after the files say of a search. Own choice of this project.
 use Rattle.std.specs.Prelude.{ℕ, ◌≤◌, ◌^◌, ℤ, pos, ◌&&◌, List, [], ◌∷◌, codes, bytes_eq}
-use Rattle.std.specs.Prelude.{Option, None, Some, IfSome, option_map, option_and_then, if◌then◌else◌}
+use Rattle.std.specs.Prelude.{Option, None, Some, IfSome, option_map, option_and_then}
+use Rattle.std.specs.Prelude.{if◌then◌else◌}
 use Rattle.std.specs.Result.{result_ok}
 use Rattle.ldp_spelling.specs.Numbers.{whole_in}
 use Rattle.ldp_quantity.specs.Between.{IsBetween, number_from_to}

@@ -21,7 +21,8 @@ wkt_request _ = None
 
 abbrev pub wkt_files : WktRequest → List Asked
 wkt_files asked =
-    record { role = roles.Grids; name = asked.grids } ∷ record { role = roles.Job; name = asked.job }
+    record { role = roles.Grids; name = asked.grids }
+    ∷ record { role = roles.Job; name = asked.job }
     ∷ []
 
 abbrev pub wkt_answer : WktRequest → Files → Result Answer Refusal

@@ -1,6 +1,8 @@
 ghost use Rattle.std.specs.Prelude.{◌≡◌, false, Some, IfOk, IfErr, IfSome, map, string_bytes};
 ghost use Rattle.ldp_cli.specs.Files.{ServesFrom, Gives, StopsIn};
 ghost use Rattle.ldp_cli.specs.Commands.{request, request_named, files_of, answer_to, Shows};
+ghost use Rattle.ldp_cli.specs.Commands.{sampled_in};
+ghost use Rattle.ldp_cli.specs.Sample.{sample_answer};
 
 use crate::certificate::{JobWords, job_words};
 use crate::check::{check, upgrade};
@@ -69,6 +71,8 @@ pub fn answer<H: Shelf>(alloc: Global, shelf: &mut H, request: &Request<'_>) -> 
     requires { ServesFrom (H.serves shelf.old) 0 (files_of request.now) }
     ensures told { IfSome (H.files shelf.old) (λ files.
         Gives result (answer_to request.now files)) }
+    ensures sampled { IfSome (sampled_in (Some request.now)) (λ asked.
+        Gives result (sample_answer asked)) }
     ensures stops { IfErr result (λ stop. StopsIn (files_of request.now) stop
         (H.faults shelf.old) (H.faults shelf.new) (H.files shelf.old)) }
     ensures shows { IfOk result (λ answer. answer.rejected ≡ false

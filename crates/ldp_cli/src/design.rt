@@ -1,7 +1,7 @@
 ghost use Rattle.std.specs.Prelude.{◌≡◌, false, IfErr, IfOk, IfSome, map, string_bytes};
 ghost use Rattle.ldp_cli.specs.Files.{ServesFrom, Gives, StopsIn};
 ghost use Rattle.ldp_cli.specs.Limits.{AreLimits};
-ghost use Rattle.ldp_cli.specs.Design.{design_request, design_files, design_answer, IsFound};
+ghost use Rattle.ldp_cli.specs.Design.{design_request, design_files, design_answer, IsCertified};
 
 use crate::limits::{Limits, limits_of};
 use crate::problem_files::{ProblemWords, take_problem};
@@ -67,7 +67,7 @@ pub fn design<H: Shelf>(
     ensures stops { IfErr result (λ stop. StopsIn (design_files words.now) stop
         (H.faults shelf.old) (H.faults shelf.new) (H.files shelf.old)) }
     ensures found { IfOk result (λ answer. answer.rejected ≡ false
-        → IfSome (H.files shelf.old) (λ files. IsFound words.now files)) }
+        → IfSome (H.files shelf.old) (λ files. IsCertified words.now files)) }
 {
     let problem = take_problem(alloc, shelf, &words.problem)?;
     let cells = cells_over(alloc, &problem.zone, &problem.heights)?;

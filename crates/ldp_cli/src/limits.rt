@@ -1,4 +1,5 @@
-ghost use Rattle.std.specs.Prelude.{◌≡◌, ◌≤◌, ◌^◌, pos, map, string_bytes, IfSome, None, codes, bytes_eq, if◌then◌else◌};
+ghost use Rattle.std.specs.Prelude.{◌≡◌, ◌≤◌, ◌^◌, pos, map, string_bytes, IfSome, None, codes};
+ghost use Rattle.std.specs.Prelude.{bytes_eq, if◌then◌else◌};
 ghost use Rattle.ldp_quantity.specs.Between.{IsBetween};
 ghost use Rattle.ldp_cli.specs.Limits.{limits_in, budget_in, share_in, budget_alone, share_alone};
 ghost use Rattle.ldp_cli.specs.Limits.{budget_and_share, AreLimits};

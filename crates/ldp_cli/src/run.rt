@@ -2,7 +2,8 @@ ghost use Rattle.std.specs.Prelude.{◌≡◌, ◌↔◌, ◌⊎◌, ℕ, ◌≤
 ghost use Rattle.std.specs.Prelude.{false, None, Ok, Some, IfSome};
 ghost use Rattle.ldp_io.specs.Count.{Rose};
 ghost use Rattle.ldp_cli.specs.Files.{HasFailed};
-ghost use Rattle.ldp_cli.specs.Commands.{request, asked_in, outcome, Serves, Shows};
+ghost use Rattle.ldp_cli.specs.Commands.{request, asked_in, sampled_in, outcome, Serves, Shows};
+ghost use Rattle.ldp_cli.specs.Sample.{sample_answer};
 ghost use Rattle.ldp_cli.specs.Ending.{IsOneOf, ending_status, Answers, Tells};
 ghost use Rattle.ldp_cli.specs.Ending.{EndsAs, EndsIn, IsOfWriting, KeepsOutput};
 
@@ -36,6 +37,9 @@ pub fn run_words<H: Shelf, O: Sink, E: Sink>(
     // Where the shelf tells its files: the status and the output.
     ensures answers { IfSome (H.files shelf.old) (λ files. Answers result
         (outcome (map string_bytes words.now) files) (O.written out.old) (O.written out.new)) }
+    // `sample` takes no file: what it answers holds over every shelf.
+    ensures sampled { IfSome (sampled_in (request (map string_bytes words.now))) (λ asked. Answers
+        result (Some (sample_answer asked)) (O.written out.old) (O.written out.new)) }
     // What status 0 shows.
     ensures shows { result ≡ 0 → IfSome (H.files shelf.old) (λ files.
         Shows (request (map string_bytes words.now)) files) }
@@ -73,6 +77,9 @@ fn carry_out<H: Shelf, O: Sink>(
         EndsAs result (outcome (map string_bytes words.now) files)) }
     ensures answers { IfSome (H.files shelf.old) (λ files. Answers (ending_status result)
         (outcome (map string_bytes words.now) files) (O.written out.old) (O.written out.new)) }
+    ensures sampled { IfSome (sampled_in (request (map string_bytes words.now))) (λ asked. Answers
+        (ending_status result) (Some (sample_answer asked))
+        (O.written out.old) (O.written out.new)) }
     ensures shows { ending_status result ≡ 0 → IfSome (H.files shelf.old) (λ files.
         Shows (request (map string_bytes words.now)) files) }
     ensures unchanged { KeepsOutput result (O.written out.old) (O.written out.new) }

@@ -9,7 +9,8 @@ loop-place-preserved c = record {
       c.loop-place.state c.next_state-state.result c.loop-place.invariant.state
       c.next_state-state.ensures.value c.loop-place.invariant.text c.in_ok-push_place.ensures;
   state = c.next_state-state.ensures.value
-      ∙ (ap next_state c.loop-place.invariant.state ∙ sym (state_more c.args.number c.loop-place.place));
+      ∙ (ap next_state c.loop-place.invariant.state
+      ∙ sym (state_more c.args.number c.loop-place.place));
   range = c.next_state-state.ensures.range;
 }
 
