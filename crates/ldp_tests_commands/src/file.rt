@@ -24,9 +24,10 @@ impl NamedFile {
         Ok(())
     }
 
-    /// Replaces the line of this number, counted from 1.
-    pub fn replace_line(&mut self, number: usize, text: &str) -> Result<(), AllocError> {
+    /// Replaces the line of this number, counted from 1. Answers whether there is one.
+    pub fn replace_line(&mut self, number: usize, text: &str) -> Result<bool, AllocError> {
         let mut bytes = Vec::new(*self.bytes.allocator());
+        let mut replaced = false;
         for (index, line) in self
             .bytes
             .split_inclusive(|byte| *byte == b'\n')
@@ -35,25 +36,29 @@ impl NamedFile {
             if index.checked_add(1) == Some(number) {
                 bytes.extend_from_slice(text.as_bytes())?;
                 bytes.push(b'\n')?;
+                replaced = true;
             } else {
                 bytes.extend_from_slice(line)?;
             }
         }
         self.bytes = bytes;
-        Ok(())
+        Ok(replaced)
     }
 
-    /// Keeps so many lines, the first ones.
-    pub fn keep_lines(&mut self, count: usize) -> Result<(), AllocError> {
+    /// Keeps so many lines, the first ones. Answers whether there are so many.
+    pub fn keep_lines(&mut self, count: usize) -> Result<bool, AllocError> {
         let mut bytes = Vec::new(*self.bytes.allocator());
-        for line in self
+        let mut enough = count == 0;
+        for (index, line) in self
             .bytes
             .split_inclusive(|byte| *byte == b'\n')
+            .enumerate()
             .take(count)
         {
             bytes.extend_from_slice(line)?;
+            enough = index.checked_add(1) == Some(count);
         }
         self.bytes = bytes;
-        Ok(())
+        Ok(enough)
     }
 }

@@ -5,15 +5,18 @@
 //!
 //! - `file NAME`, `copy NAME OF` and `load NAME`: a new file, empty, or as another, or as the file
 //!   of that name in the folder;
-//! - `| TEXT` and `lines N TEXT`: the line TEXT, once or N times, at the end of the newest file, and
-//!   `tail TEXT` the same with no line feed;
-//! - `line N TEXT` and `keep N`: line N of the newest file is TEXT, and it has its first N lines alone;
-//! - `takes SHELF OUT ERR`: how many bytes the next run's shelf, output and error output take a call;
+//! - `| TEXT` and `lines N TEXT`: the line TEXT, once or N times, at the end of the newest file,
+//!   and `tail TEXT` the same with no line feed;
+//! - `line N TEXT` and `keep N`: line N of the newest file, which has one, is TEXT, and the file
+//!   has its first N lines alone;
+//! - `takes SHELF OUT ERR`: how many bytes the next run's shelf, output and error output take a
+//!   call;
 //! - `fails shelf N`, `fails out N` and `fails err N`: of the next run, call N, from 0, fails;
 //! - `shows N`: of what the next run writes, at most N lines are printed;
 //! - `$ WORDS`: a run; `output NAME`: a new file with what the last run wrote.
 //!
-//! Any other line is a comment.
+//! A line that is empty or begins with # and a blank is a comment. Any other line ends the script
+//! with an error.
 #![tactic(auto)]
 
 mod file;

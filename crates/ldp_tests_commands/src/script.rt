@@ -1,6 +1,6 @@
 use crate::file::NamedFile;
 use crate::run::{Ended, Outside, USUAL, run};
-use anyhow::{Context, Result};
+use anyhow::{Context, Result, bail, ensure};
 use std::alloc::Global;
 use std::fs;
 use std::rt::Files;
@@ -34,7 +34,9 @@ impl Script {
             "takes" | "fails" | "shows" => return self.set(first, rest),
             "file" | "copy" | "load" | "output" => return self.begin(rt, first, rest),
             "|" | "lines" | "tail" | "line" | "keep" => return self.edit(first, rest),
-            _ => {}
+            "#" => {}
+            _ if line.is_empty() => {}
+            _ => bail!("no line of a script: {line}"),
         }
         Ok(())
     }
@@ -69,8 +71,8 @@ impl Script {
             "|" => file.append_lines(1, rest)?,
             "tail" => file.bytes.extend_from_slice(rest.as_bytes())?,
             "lines" => file.append_lines(number.parse()?, text)?,
-            "line" => file.replace_line(number.parse()?, text)?,
-            _ => file.keep_lines(number.parse()?)?,
+            "line" => ensure!(file.replace_line(number.parse()?, text)?, "no such line"),
+            _ => ensure!(file.keep_lines(number.parse()?)?, "no such line"),
         }
         Ok(())
     }

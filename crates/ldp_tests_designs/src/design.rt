@@ -45,7 +45,7 @@ fn three_scales() -> Family
     }
 }
 
-/// An oblique family of four values on each axis of angles; latitude and azimuth have the same ones.
+/// An oblique family of four values on each axis of angles, the same for latitude and azimuth.
 fn oblique() -> Family
     ensures { IsValid result }
 {

@@ -4,7 +4,7 @@ ghost use Rattle.std.specs.Prelude.{◌<◌, ◌≤◌};
 use ldp_cells::{Cells, zone_cells};
 use ldp_heights::{Heights, read_heights};
 use ldp_zone::{Zone, read_zone};
-use std::alloc::Global;
+use std::alloc::{AllocError, Global};
 use std::process::Abort;
 use std::test::Fail;
 
@@ -56,39 +56,63 @@ fn stands_at(cells: &Cells, index: u32, row: u32, col: u32) -> bool {
     cell.row == row && cell.col == col
 }
 
-/// The cells of a zone are the places whose centres lie in it by the test of a single point.
-fn expect_filled(
+/// A header with so many heights of 0 behind it.
+fn level(alloc: Global, header: &[u8], places: u32) -> Result<Vec<u8>, AllocError> {
+    let mut grid = header.to_vec(alloc)?;
+    for _ in 0..places {
+        grid.extend_from_slice(b" 0")?;
+    }
+    Ok(grid)
+}
+
+/// The cells from one on that stand in a row, one at each place whose centre lies in the zone by
+/// the test of a single point. Answers the index of the cell behind them.
+fn behind_row(
+    rt: &impl Abort,
+    zone: &Zone,
+    heights: &Heights,
+    cells: &Cells,
+    first: u32,
+    row: u32,
+) -> u32
+    requires { row < heights.now.rows }
+{
+    let mut next = first;
+    for col in 0..heights.cols() {
+        let found = stands_at(cells, next, row, col);
+        assert_eq!(rt; found, has_centre(zone, heights, row, col), "{row} {col}");
+        if found {
+            next = next.saturating_add(1);
+        }
+    }
+    next
+}
+
+/// How many cells a zone has. They are the places whose centres lie in it by the test of a single
+/// point.
+fn filled(
     rt: &impl Abort,
     alloc: Global,
     polygon: &[u8],
     header: &[u8],
     places: u32,
-) -> Result<(), Fail> {
-    let mut grid = header.to_vec(alloc)?;
-    for _ in 0..places {
-        grid.extend_from_slice(b" 0")?;
-    }
+) -> Result<u32, Fail> {
     let zone = read_zone(alloc, polygon)?;
-    let heights = read_heights(alloc, &grid)?;
+    let heights = read_heights(alloc, &level(alloc, header, places)?)?;
     let cells = zone_cells(alloc, &zone, &heights)?;
-    let mut next = 0u32;
+    let mut next = 0;
     for row in 0..heights.rows() {
-        for col in 0..heights.cols() {
-            let found = stands_at(&cells, next, row, col);
-            assert_eq!(rt; found, has_centre(&zone, &heights, row, col), "{row} {col}");
-            if found {
-                next = next.saturating_add(1);
-            }
-        }
+        next = behind_row(rt, &zone, &heights, &cells, next, row);
     }
     assert_eq!(rt; next, cells.len());
-    Ok(())
+    Ok(next)
 }
 
 #[test]
 fn rows_filled_as_single_points_tell(rt: HostRuntime) -> Result<(), Fail> {
     for (polygon, header, places) in FILLED {
-        expect_filled(&rt, rt.alloc(), polygon, header, places)?;
+        let count = filled(&rt, rt.alloc(), polygon, header, places)?;
+        assert!(rt; count > 0, "over {places} places");
     }
     Ok(())
 }
@@ -136,6 +160,7 @@ impl Sequence {
 #[test]
 fn rows_of_random_zones_filled_as_single_points_tell(rt: HostRuntime) -> Result<(), Fail> {
     let mut numbers = Sequence(1);
+    let mut sum = 0u32;
     for turn in 0..300u32 {
         let outer = numbers.ring(rt.alloc())?;
         let inner = numbers.ring(rt.alloc())?;
@@ -145,7 +170,9 @@ fn rows_of_random_zones_filled_as_single_points_tell(rt: HostRuntime) -> Result<
         } else {
             b"ncols 13 nrows 10 xllcenter 0 yllcenter 0.25 cellsize 0.333333333333".as_slice()
         };
-        expect_filled(&rt, rt.alloc(), polygon.as_bytes(), header, 130)?;
+        let count = filled(&rt, rt.alloc(), polygon.as_bytes(), header, 130)?;
+        sum = sum.saturating_add(count);
     }
+    assert!(rt; sum > 0);
     Ok(())
 }

@@ -1,4 +1,5 @@
-//! Tests of the crates below, over their public calls alone, a file for each crate: cells, designs and their boxes.
+//! Tests of the crates below, over their public calls alone, a file for each crate: cells, designs
+//! and their boxes.
 //! A crate with tests of its own would be proved twice.
 #![tactic(auto)]
 

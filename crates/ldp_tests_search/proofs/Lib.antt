@@ -1,1 +1,2 @@
 mod Two
+mod Sound

@@ -1,5 +1,6 @@
 -- Costs and bounds over two cells.
-use Rattle.std.proofs.Common.{◌≡◌, ℕ, Bool, true, false, ◌==◌, List, [], ◌∷◌, Option, None, Some, refl, sym, ap, ◌∙◌, arith}
+use Rattle.std.proofs.Common.{◌≡◌, ℕ, Bool, true, false, ◌==◌, List, [], ◌∷◌, Option, None, Some}
+use Rattle.std.proofs.Common.{refl, sym, ap, ◌∙◌, arith}
 use Rattle.std.proofs.lemmas.Bool.Decides.{nat_tests}
 use Rattle.std.specs.Prelude.{pos, max, nat_lt, position, unwrap_or, if◌then◌else◌}
 use Rattle.std.specs.Option.{is_none}
@@ -8,8 +9,11 @@ use Rattle.ldp_design.specs.declared.design_box.DesignBox.{DesignBox}
 use Rattle.ldp_problem.specs.declared.bound.Bound.TheVariants as bounds
 use Rattle.ldp_problem.specs.declared.cost.Cost.{Cost}
 use Rattle.ldp_problem.specs.declared.cost.Cost.TheVariants as costs
-use Rattle.ldp_problem.specs.Costs.{beyond, largest, first_largest, tally, cost_answer, cost_of, bound_answer, bound_of, unusable_at, cost, worst_cell, bound, bound_cell}
-use Rattle.ldp_tests_search.specs.Tables.{blank, number_at, size_at, first_blank, count_over, tally_of, low_of, problem_of}
+use Rattle.ldp_problem.specs.Costs.{beyond, largest, first_largest, tally, cost_answer, cost_of}
+use Rattle.ldp_problem.specs.Costs.{bound_answer, bound_of, unusable_at, cost, worst_cell, bound}
+use Rattle.ldp_problem.specs.Costs.{bound_cell}
+use Rattle.ldp_tests_search.specs.Tables.{blank, number_at, size_at, first_blank, count_over}
+use Rattle.ldp_tests_search.specs.Tables.{tally_of, low_of, problem_of}
 
 beyond_two : (tolerance : Option ℕ) (m n : ℕ) → beyond tolerance (m ∷ n ∷ []) ≡ count_over tolerance
     m n

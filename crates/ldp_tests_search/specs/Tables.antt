@@ -8,7 +8,6 @@ use Rattle.ldp_design.specs.declared.family.Kind.TheVariants.{Tm}
 use Rattle.ldp_design.specs.Boxes.{is_single}
 use Rattle.ldp_design.specs.Families.{single_axis}
 use Rattle.ldp_problem.specs.Problem.{Problem}
-use Rattle.ldp_tests_search.specs.declared.table.Table.{Table}
 
 -- what stands where there is no number
 abbrev pub blank : ℕ
@@ -77,7 +76,3 @@ problem_of count first second tolerance = record {
   lower = λ b cell. low_of (column_of first second cell) b;
   delta = λ d cell. size_at (column_of first second cell) d.scale;
 }
-
--- the problem of a table
-abbrev pub problem_in : Table → Problem
-problem_in t = problem_of t.count t.first.items t.second.items t.tolerance

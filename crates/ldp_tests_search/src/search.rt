@@ -1,5 +1,6 @@
 ghost use Rattle.std.specs.Prelude.{◌≡◌, ◌+◌, ◌≤◌, [], ◌∷◌, IfOk};
-ghost use Rattle.ldp_tests_search.specs.Tables.{scales, problem_in};
+ghost use Rattle.ldp_tests_search.specs.Tables.{scales};
+ghost use Rattle.ldp_tests_search.specs.InTable.{problem_in};
 
 use crate::table::{BLANK, Table};
 use ldp_design::{Axis, AxisName, Family, Grids, Kind, Node};
@@ -84,13 +85,7 @@ fn random_table(alloc: Global, numbers: &mut Sequence, count: u32) -> Result<Tab
     } else {
         Some(numbers.below(6))
     };
-    Ok(Table {
-        count,
-        first,
-        second,
-        tolerance,
-        asked: 0,
-    })
+    Ok(Table::new(count, first, second, tolerance))
 }
 
 fn number(column: &[u64], i: u32) -> u64 {
@@ -277,13 +272,9 @@ const BEST: [(Option<u64>, u32, u32, i128, u32); 2] = [
 fn two_objectives(rt: HostRuntime) -> Result<(), Fail> {
     let grids = grids_of(rt.alloc(), 2)?;
     for (tolerance, index, over, worst, cell) in BEST {
-        let mut table = Table {
-            count: 2,
-            first: vec![in rt.alloc(); 0, 80_000_000_000]?,
-            second: vec![in rt.alloc(); 157_288_291_614, 77_300_874_678]?,
-            tolerance,
-            asked: 0,
-        };
+        let first = vec![in rt.alloc(); 0, 80_000_000_000]?;
+        let second = vec![in rt.alloc(); 157_288_291_614, 77_300_874_678]?;
+        let mut table = Table::new(2, first, second, tolerance);
         let found = search(rt.alloc(), &mut table, &grids, 3)?;
         assert_eq!(rt; (found.design.scale, found.over), (index, over));
         assert_eq!(rt; (found.worst, found.cell), (worst, cell));

@@ -1,7 +1,8 @@
 ghost use Rattle.std.specs.Prelude.{◌≡◌, ◌≤◌, ◌<◌};
-ghost use Rattle.ldp_problem.specs.Costs.{bound_of, cost_of, count_up, unusable_at};
-ghost use Rattle.ldp_tests_search.specs.Tables.{number_at, low_of, tally_of, first_blank, column_of};
-ghost use Rattle.ldp_tests_search.specs.Sound.{table_sound};
+ghost use Rattle.ldp_problem.specs.Problem.{IsSound};
+ghost use Rattle.ldp_problem.specs.Costs.{bound_of, cost_of, unusable_at};
+ghost use Rattle.ldp_tests_search.specs.Tables.{number_at, low_of, tally_of, first_blank};
+ghost use Rattle.ldp_tests_search.specs.Tables.{column_of, problem_of};
 
 use ldp_design::{Design, DesignBox, is_single};
 use ldp_problem::{Bound, Bounds, Cost};
@@ -17,6 +18,7 @@ pub struct Table {
     pub second: Vec<u64>,
     pub tolerance: Option<u64>,
     pub asked: u64,
+    pub ghost is_sound: { IsSound (problem_of count first.items second.items tolerance) },
 }
 
 fn number(column: &[u64], i: u32) -> u64
@@ -58,12 +60,21 @@ fn tally(tolerance: Option<u64>, first: u64, second: u64) -> (u32, i128, u32)
 }
 
 impl Table {
-    ghost use Rattle.ldp_tests_search.specs.Tables.{problem_in};
+    ghost use Rattle.ldp_tests_search.specs.InTable.{problem_in};
 
-    fn ask(&mut self)
-        ensures { self.new ≡ record self.old { asked = count_up self.old.asked } }
+    /// A table that nothing was asked of.
+    pub fn new(count: u32, first: Vec<u64>, second: Vec<u64>, tolerance: Option<u64>) -> Table
+        ensures problem { problem_in result
+            ≡ problem_of count first.items second.items tolerance }
+        ensures count { result.count ≡ count }
     {
-        self.asked = self.asked.saturating_add(1);
+        Table {
+            count,
+            first,
+            second,
+            tolerance,
+            asked: 0,
+        }
     }
 
     /// The first cell where a design is undefined.
@@ -122,13 +133,11 @@ impl Table {
 }
 
 impl Bounds for Table {
-    ghost use Rattle.ldp_tests_search.specs.Tables.{problem_in};
+    ghost use Rattle.ldp_tests_search.specs.InTable.{problem_in};
 
     ghost problem = { problem_in };
 
     ghost times = { λ t. t.asked };
-
-    ghost sound = { λ t. table_sound t.count t.first.items t.second.items t.tolerance };
 
     fn cells(&self) -> u32 {
         2
@@ -139,26 +148,28 @@ impl Bounds for Table {
     }
 
     fn bound(&mut self, b: &DesignBox) -> Bound {
-        self.ask();
+        self.asked = self.asked.saturating_add(1);
         self.bound_at(b)
     }
 
     fn lower(&mut self, b: &DesignBox, cell: u32) -> i128 {
-        self.ask();
+        self.asked = self.asked.saturating_add(1);
         i128::from(low(self.column(cell), b))
     }
 
     fn defined(&mut self, d: &Design, cell: u32) -> bool {
-        self.ask();
+        self.asked = self.asked.saturating_add(1);
         number(self.column(cell), d.scale) != BLANK
     }
 
     fn cost(&mut self, d: &Design) -> Cost {
-        self.ask();
+        self.asked = self.asked.saturating_add(1);
         self.cost_at(d)
     }
 
     fn asked(&self) -> u64 {
         self.asked
     }
+
+    ghost sound = { λ t. t.is_sound };
 }

@@ -2,12 +2,28 @@
 // and written.
 ghost use Rattle.std.specs.Prelude.{◌<◌, ◌≤◌, IsTrue, length};
 
+use crate::escape::answer_bytes;
+use crate::show::{answer, named};
+use anyhow::{Result, bail};
 use ldp_io::{
     FileShelf, MemoryShelf, MemorySink, Next, NoFaultShelf, NoFaultSink, Opened, Shelf, Sink,
     StreamSink, Wrote,
 };
 use std::fs;
-use std::test::Fail;
+use std::rt::Files;
+
+/// Carries out the case of this name.
+pub fn case(rt: &(impl Files + Print + AllocGlobal), name: &str) -> Result<()> {
+    match name {
+        "memory shelf" => memory_shelf(rt),
+        "shelf without faults" => no_fault_shelf(rt),
+        "memory sink" => memory_sink(rt),
+        "sink without faults" => no_fault_sink(rt),
+        "real files" => real_files(rt),
+        "real streams" => real_streams(rt),
+        _ => bail!("no such case: {name}"),
+    }
+}
 
 /// Begins a file at the third place and takes the first of its bytes.
 fn begin_and_take<S: Shelf>(shelf: &mut S, name: &str, buf: &mut [u8]) -> (Opened, Next)
@@ -25,100 +41,66 @@ fn write_twice<S: Sink>(sink: &mut S, piece: &[u8]) -> (Wrote, Wrote)
     (first, sink.write(piece))
 }
 
-#[test]
-fn a_memory_shelf_gives_what_was_put_last(rt: HostRuntime) -> Result<(), Fail> {
+/// A shelf in memory gives what was put last.
+fn memory_shelf(rt: &(impl Print + AllocGlobal)) -> Result<()> {
     let mut shelf = MemoryShelf::new(rt.alloc(), 3);
     shelf.put("zone", b"an older zone")?;
     shelf.put("zone", b"zones")?;
     shelf.put("heights", b"")?;
     shelf.fail_at(7)?;
     let mut buf = [0; 4];
-    for (name, want) in [
-        ("zone", (Opened::Ready, Next::Took(3))),
-        ("heights", (Opened::Ready, Next::End)),
-        ("grid", (Opened::Failed, Next::End)),
-        ("zone", (Opened::Ready, Next::Failed)),
-    ] {
-        assert_eq!(rt;
-            begin_and_take(&mut shelf, name, &mut buf),
-            want,
-            "at {name}"
-        );
+    for name in ["zone", "heights", "grid", "zone"] {
+        named(rt, name, &begin_and_take(&mut shelf, name, &mut buf))?;
     }
-    assert_eq!(rt; shelf.next(&mut buf), Next::Took(3));
-    assert_eq!(rt; shelf.next(&mut buf), Next::Took(2));
-    assert_eq!(rt; buf, [b'e', b's', b'n', 0]);
-    Ok(())
+    answer(rt, &shelf.next(&mut buf))?;
+    answer(rt, &shelf.next(&mut buf))?;
+    answer_bytes(rt, &buf)
 }
 
-#[test]
-fn a_shelf_without_faults_gives_an_empty_file(rt: HostRuntime) -> Result<(), Fail> {
+/// A shelf without faults gives an empty file in the place of one that is not there.
+fn no_fault_shelf(rt: &(impl Print + AllocGlobal)) -> Result<()> {
     let mut shelf = NoFaultShelf::new(rt.alloc(), 9);
     shelf.put("zone", b"zones")?;
     let mut buf = [0; 4];
-    for (name, want) in [
-        ("zone", (Opened::Ready, Next::Took(4))),
-        ("grid", (Opened::Ready, Next::End)),
-    ] {
-        assert_eq!(rt;
-            begin_and_take(&mut shelf, name, &mut buf),
-            want,
-            "at {name}"
-        );
+    for name in ["zone", "grid"] {
+        named(rt, name, &begin_and_take(&mut shelf, name, &mut buf))?;
     }
     Ok(())
 }
 
-#[test]
-fn sinks_in_memory_keep_what_they_take(rt: HostRuntime) -> Result<(), Fail> {
+/// A sink in memory keeps what it takes.
+fn memory_sink(rt: &(impl Print + AllocGlobal)) -> Result<()> {
     let mut sink = MemorySink::new(rt.alloc(), 3);
     sink.fail_at(1)?;
-    assert_eq!(rt;
-        write_twice(&mut sink, b"tables"),
-        (Wrote::Took(3), Wrote::Failed)
-    );
-    assert_eq!(rt;
-        write_twice(&mut sink, b"is"),
-        (Wrote::Took(2), Wrote::Took(2))
-    );
-    assert_eq!(rt; sink.bytes(), b"tabisis".as_slice());
+    answer(rt, &write_twice(&mut sink, b"tables"))?;
+    answer(rt, &write_twice(&mut sink, b"is"))?;
+    answer_bytes(rt, sink.bytes())
+}
 
+fn no_fault_sink(rt: &(impl Print + AllocGlobal)) -> Result<()> {
     let mut sink = NoFaultSink::new(rt.alloc(), 9);
-    assert_eq!(rt;
-        write_twice(&mut sink, b"is"),
-        (Wrote::Took(2), Wrote::Took(2))
-    );
-    assert_eq!(rt; sink.bytes(), b"isis".as_slice());
-    Ok(())
+    answer(rt, &write_twice(&mut sink, b"is"))?;
+    answer_bytes(rt, sink.bytes())
 }
 
-#[test]
-fn real_files_are_read(rt: HostRuntime) {
-    let mut shelf = FileShelf::new(&rt);
+fn real_files(rt: &(impl Files + Print)) -> Result<()> {
+    let mut shelf = FileShelf::new(rt);
     let mut buf = [1; 4];
-    for (name, want) in [
-        ("/dev/null", (Opened::Ready, Next::End)),
-        ("/dev/zero", (Opened::Ready, Next::Took(4))),
-        ("/dev", (Opened::Ready, Next::Failed)),
-        ("/dev/there is no such file", (Opened::Failed, Next::End)),
+    for name in [
+        "/dev/null",
+        "/dev/zero",
+        "/dev",
+        "/dev/there is no such file",
     ] {
-        assert_eq!(rt;
-            begin_and_take(&mut shelf, name, &mut buf),
-            want,
-            "at {name}"
-        );
+        named(rt, name, &begin_and_take(&mut shelf, name, &mut buf))?;
     }
-    assert_eq!(rt; buf, [0; 4]);
+    answer_bytes(rt, &buf)
 }
 
-#[test]
-fn real_streams_are_written(rt: HostRuntime) -> Result<(), Fail> {
-    for (name, want) in [
-        ("/dev/null", (Wrote::Took(5), Wrote::Took(5))),
-        ("/dev/full", (Wrote::Failed, Wrote::Failed)),
-    ] {
-        let mut sink = StreamSink::new(fs::create(&rt, name)?);
-        assert_eq!(rt; write_twice(&mut sink, b"table"), want, "at {name}");
+fn real_streams(rt: &(impl Files + Print)) -> Result<()> {
+    for name in ["/dev/null", "/dev/full"] {
+        let mut sink = StreamSink::new(fs::create(rt, name)?);
+        named(rt, name, &write_twice(&mut sink, b"table"))?;
     }
     Ok(())
 }

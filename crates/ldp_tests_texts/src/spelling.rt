@@ -1,87 +1,69 @@
+use crate::escape::answer_bytes;
+use crate::show::{answer, named};
+use anyhow::Result;
 use ldp_spelling::{Lines, Words, hash_digits, read_fixed, read_hash, read_trimmed, read_whole};
 
-/// Texts, and the whole number from 1 to 4294967295 that each is.
-const WHOLES: [(&[u8], Option<u64>); 11] = [
-    (b"1", Some(1)),
-    (b"4294967295", Some(4_294_967_295)),
-    (b"0", None),
-    (b"4294967296", None),
-    (b"01", None),
-    (b"+1", None),
-    (b"-1", None),
-    (b"1.", None),
-    (b"1e1", None),
-    (b"", None),
-    (b" 1", None),
-];
-
-#[test]
-fn whole_numbers(rt: HostRuntime) {
-    for (text, number) in WHOLES {
-        assert_eq!(rt; read_whole(text, 1, 4_294_967_295), number);
-    }
-    let most = 10_000_000_000_000_000_000;
-    assert_eq!(rt; read_whole(b"10000000000000000000", 0, most), Some(most));
-    assert_eq!(rt; read_whole(b"10000000000000000001", 0, most), None);
-}
-
-/// Texts, and the numbers from -2 to 2 in thousandths that they are, trimmed and with three
-/// decimals.
-const DECIMALS: [(&[u8], Option<i128>, Option<i128>); 16] = [
-    (b"0", Some(0), None),
-    (b"0.000", None, Some(0)),
-    (b"-0", None, None),
-    (b"-0.000", None, None),
-    (b"1.5", Some(1500), None),
-    (b"1.500", None, Some(1500)),
-    (b"-1.505", Some(-1505), Some(-1505)),
-    (b"-2", Some(-2000), None),
-    (b"2.001", None, None),
-    (b"0.01", Some(10), None),
-    (b".5", None, None),
-    (b"1.", None, None),
-    (b"0.0005", None, None),
-    (b"01.5", None, None),
-    (b"15e-1", None, None),
-    (b"+1.5", None, None),
-];
-
-#[test]
-fn decimal_numbers(rt: HostRuntime) {
-    for (text, trimmed, fixed) in DECIMALS {
-        assert_eq!(rt; read_trimmed(text, 3, -2000, 2000), trimmed);
-        assert_eq!(rt; read_fixed(text, 3, -2000, 2000), fixed);
+/// Calls the reader of this word over a text.
+pub fn ask(rt: &impl Print, word: &str, text: &[u8]) -> Result<()> {
+    match word {
+        "decimals" => decimals(rt, text),
+        "hash" => hash(rt, text),
+        "lines" => lines(rt, text),
+        "words" => words(rt, text),
+        _ => whole(rt, word, text),
     }
 }
 
-/// The SHA-256 hash of the empty text, as FIPS 180-4 gives it.
-const EMPTY: &[u8] = b"e3b0c44298fc1c149afbf4c8996fb92427ae41e4649b934ca495991b7852b855";
-
-#[test]
-fn hashes(rt: HostRuntime) {
-    let hash = read_hash(EMPTY);
-    assert_eq!(rt; hash.map(|bytes| (bytes[0], bytes[31])), Some((0xe3, 0x55)));
-    assert!(rt; hash.is_some_and(|bytes| hash_digits(&bytes).as_slice() == EMPTY));
-    assert_eq!(rt; read_hash(&EMPTY[2..]), None);
-    assert_eq!(rt;
-        read_hash(b"E3b0c44298fc1c149afbf4c8996fb92427ae41e4649b934ca495991b7852b855"),
-        None
-    );
+/// A whole number from 1 to 4294967295, or `wide` from 0 to 10^19.
+fn whole(rt: &impl Print, word: &str, text: &[u8]) -> Result<()> {
+    let number = if word == "wide" {
+        read_whole(text, 0, 10_000_000_000_000_000_000)
+    } else {
+        read_whole(text, 1, 4_294_967_295)
+    };
+    answer(rt, &number)
 }
 
-#[test]
-fn lines_and_words(rt: HostRuntime) {
-    let mut lines = Lines::of_text(b"s  k0\n\nend");
-    let first = lines.next();
-    assert_eq!(rt; first, Some(b"s  k0".as_slice()));
-    assert_eq!(rt; lines.next(), Some(b"".as_slice()));
-    assert_eq!(rt; lines.next(), None);
-    assert!(rt; !lines.is_empty());
-    let mut words = Words::of_line(b"s  k0");
-    for word in [b"s".as_slice(), b"", b"k0"] {
-        assert!(rt; !words.is_empty());
-        assert_eq!(rt; words.next(), Some(word));
+/// A number from -2 to 2 in thousandths, trimmed and with three decimals.
+fn decimals(rt: &impl Print, text: &[u8]) -> Result<()> {
+    let trimmed = read_trimmed(text, 3, -2000, 2000);
+    let fixed = read_fixed(text, 3, -2000, 2000);
+    named(rt, "trimmed", &trimmed)?;
+    named(rt, "fixed", &fixed)
+}
+
+/// A hash: its first and last bytes, and its digits as they are written again.
+fn hash(rt: &impl Print, text: &[u8]) -> Result<()> {
+    let hash = read_hash(text);
+    answer(rt, &hash.map(|bytes| (bytes[0], bytes[31])))?;
+    match hash {
+        Some(bytes) => answer_bytes(rt, &hash_digits(&bytes)),
+        None => Ok(()),
     }
-    assert!(rt; words.is_empty());
-    assert_eq!(rt; words.next(), None);
+}
+
+/// The lines of a text up to the first that is not ended, and whether the rest is empty.
+fn lines(rt: &impl Print, text: &[u8]) -> Result<()> {
+    let mut lines = Lines::of_text(text);
+    for _ in 0..=text.len() {
+        let Some(line) = lines.next() else {
+            return named(rt, "none, empty", &lines.is_empty());
+        };
+        answer_bytes(rt, line)?;
+    }
+    Ok(())
+}
+
+/// The words of a line, each with whether the rest was empty before it.
+fn words(rt: &impl Print, line: &[u8]) -> Result<()> {
+    let mut words = Words::of_line(line);
+    for _ in 0..=line.len() {
+        let empty = words.is_empty();
+        let Some(word) = words.next() else {
+            return named(rt, "none, empty", &empty);
+        };
+        named(rt, "empty", &empty)?;
+        answer_bytes(rt, word)?;
+    }
+    Ok(())
 }

@@ -1,57 +1,33 @@
-use ldp_tokens::{Tokens, skip_mark};
+use crate::escape::{answer_bytes, bytes_of, put_bytes};
+use anyhow::{Context, Result};
+use ldp_tokens::{Token, Tokens, skip_mark};
 
-/// Texts, the signs in them, and the tokens with their places.
-const ROWS: [(&[u8], &[u8], &[(usize, &[u8])]); 12] = [
-    (b"", b"(),", &[]),
-    (b" \t\r\n", b"(),", &[]),
-    (b"ab", b"", &[(0, b"ab")]),
-    (
-        b" a\tbc\rd\n\n ef ",
-        b"",
-        &[(1, b"a"), (3, b"bc"), (6, b"d"), (10, b"ef")],
-    ),
-    (
-        b"((0 1,2 ) )",
-        b"(),",
-        &[
-            (0, b"("),
-            (1, b"("),
-            (2, b"0"),
-            (4, b"1"),
-            (5, b","),
-            (6, b"2"),
-            (8, b")"),
-            (10, b")"),
-        ],
-    ),
-    (b"ab(c,d) ", b"", &[(0, b"ab(c,d)")]),
-    (b"ab(c", b"(", &[(0, b"ab"), (2, b"("), (3, b"c")]),
-    (
-        b"a\x00b\x0bc\x0cd \x00 e",
-        b"",
-        &[(0, b"a\x00b\x0bc\x0cd"), (8, b"\x00"), (10, b"e")],
-    ),
-    (b"a b", b" ", &[(0, b"a"), (2, b"b")]),
-    (b"\xef\xbb\xbf1 2", b"", &[(3, b"1"), (5, b"2")]),
-    (b" \xef\xbb\xbf1", b"", &[(1, b"\xef\xbb\xbf1")]),
-    (b"\xef\xbb2", b"\xef", &[(0, b"\xef"), (1, b"\xbb2")]),
-];
-
-#[test]
-fn tokens_and_places(rt: HostRuntime) {
-    for (text, signs, expected) in ROWS {
-        let mut tokens = Tokens::of_text(text, signs);
-        for token in expected {
-            let found = tokens.next().map(|token| (token.place, token.bytes));
-            assert_eq!(rt; found, Some(*token));
-        }
-        assert!(rt; tokens.next().is_none());
-    }
+/// The tokens of a text with their places: `tokens SIGNS TEXT`.
+pub fn tokens(rt: &(impl Print + AllocGlobal), rest: &str) -> Result<()> {
+    let (signs, text) = rest.split_once(' ').context("signs and a text")?;
+    let signs = bytes_of(rt.alloc(), signs)?;
+    let text = bytes_of(rt.alloc(), text)?;
+    put_tokens(rt, &signs, &text)
 }
 
-#[test]
-fn a_mark_in_front_is_skipped(rt: HostRuntime) {
-    assert_eq!(rt; skip_mark(b"\xef\xbb\xbfab"), b"ab".as_slice());
-    assert_eq!(rt; skip_mark(b"\xef\xbbab"), b"\xef\xbbab".as_slice());
-    assert_eq!(rt; skip_mark(b"ab\xef\xbb\xbf"), b"ab\xef\xbb\xbf".as_slice());
+fn put_tokens(rt: &impl Print, signs: &[u8], text: &[u8]) -> Result<()> {
+    let mut tokens = Tokens::of_text(text, signs);
+    for _ in 0..=text.len() {
+        let Some(token) = tokens.next() else {
+            println!(rt; "= None")?;
+            break;
+        };
+        put_token(rt, &token)?;
+    }
+    Ok(())
+}
+
+fn put_token(rt: &impl Print, token: &Token<'_>) -> Result<()> {
+    print!(rt; "= {} ", token.place)?;
+    put_bytes(rt, token.bytes)
+}
+
+/// A text with no mark in front.
+pub fn unmarked(rt: &impl Print, text: &[u8]) -> Result<()> {
+    answer_bytes(rt, skip_mark(text))
 }

@@ -132,7 +132,12 @@ fn lines_of_each_kind(rt: HostRuntime) -> Result<(), Fail> {
 /// A text of design grids of each kind, and one of its designs.
 const DESIGNS: [(&[u8], Design, Kind); 4] = [
     (
-        b"[[family]]\nkind = \"tm\"\nlat = \"0\"\nlon = \"-105\"\nk0 = { from = \"0.99999\", step = \"0.00001\", count = 3 }\n",
+        b"\
+            [[family]]\n\
+            kind = \"tm\"\n\
+            lat = \"0\"\n\
+            lon = \"-105\"\n\
+            k0 = { from = \"0.99999\", step = \"0.00001\", count = 3 }\n",
         Design {
             family: 1,
             lat: 0,
@@ -143,7 +148,14 @@ const DESIGNS: [(&[u8], Design, Kind); 4] = [
         Kind::Tm,
     ),
     (
-        b"[[family]]\nkind = \"lambert\"\nlat = { from = \"39.2\", step = \"0.05\", count = 2 }\nlon = \"-105.2\"\nk0 = \"1.00002\"\neasting = \"150000\"\nnorthing = \"-50000.0005\"\n",
+        b"\
+            [[family]]\n\
+            kind = \"lambert\"\n\
+            lat = { from = \"39.2\", step = \"0.05\", count = 2 }\n\
+            lon = \"-105.2\"\n\
+            k0 = \"1.00002\"\n\
+            easting = \"150000\"\n\
+            northing = \"-50000.0005\"\n",
         Design {
             family: 1,
             lat: 1,
@@ -154,7 +166,13 @@ const DESIGNS: [(&[u8], Design, Kind); 4] = [
         Kind::Lambert,
     ),
     (
-        b"[[family]]\nkind = \"hotine\"\nlat = \"44.5\"\nlon = { from = \"-123.7\", step = \"0.1\", count = 3 }\nazimuth = { from = \"-45\", step = \"1\", count = 61 }\nk0 = { from = \"0.99998\", step = \"0.000005\", count = 21 }\n",
+        b"\
+            [[family]]\n\
+            kind = \"hotine\"\n\
+            lat = \"44.5\"\n\
+            lon = { from = \"-123.7\", step = \"0.1\", count = 3 }\n\
+            azimuth = { from = \"-45\", step = \"1\", count = 61 }\n\
+            k0 = { from = \"0.99998\", step = \"0.000005\", count = 21 }\n",
         Design {
             family: 1,
             lat: 0,
@@ -165,7 +183,13 @@ const DESIGNS: [(&[u8], Design, Kind); 4] = [
         Kind::Hotine,
     ),
     (
-        b"[[family]]\nkind = \"lambert2\"\nlat = \"40\"\nlat2 = { from = \"40.5\", step = \"0.5\", count = 2 }\nlon = \"-105\"\norigin = \"39.5\"\n",
+        b"\
+            [[family]]\n\
+            kind = \"lambert2\"\n\
+            lat = \"40\"\n\
+            lat2 = { from = \"40.5\", step = \"0.5\", count = 2 }\n\
+            lon = \"-105\"\n\
+            origin = \"39.5\"\n",
         Design {
             family: 1,
             lat: 0,
@@ -188,8 +212,8 @@ fn lines_of_designs(rt: HostRuntime) -> Result<(), Fail> {
     Ok(())
 }
 
-/// A line with a change: its kind, the first byte, how many bytes go, what comes in their place, and where
-/// the piece begins that then does not fit.
+/// A line with a change: its kind, the first byte, how many bytes go, what comes in their place,
+/// and where the piece begins that then does not fit.
 const CHANGED: [(Kind, usize, usize, &[u8], usize); 36] = [
     // the text before the method's name
     (Kind::Tm, 0, 1, b"p", 0),

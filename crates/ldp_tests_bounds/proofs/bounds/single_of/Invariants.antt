@@ -1,5 +1,0 @@
-use Rattle.ldp_design.specs.Boxes.{LiesIn}
-use Rattle.ldp_tests_bounds.proofs.bounds.single_of.Given as goal
-
-abbrev pub invariant-loop : goal.invariant-loop
-invariant-loop l = LiesIn l.grids l.narrow

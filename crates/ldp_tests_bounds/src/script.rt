@@ -1,0 +1,40 @@
+use crate::ask::ask;
+use crate::stretches::{print_begins, print_tally};
+use crate::texts::{Part, Texts};
+use anyhow::{Result, bail};
+use std::alloc::Global;
+
+/// A script as far as it was followed.
+#[derive(Drop)]
+pub struct Script {
+    texts: Texts,
+    newest: Part,
+}
+
+impl Script {
+    pub fn new(alloc: Global) -> Script {
+        Script {
+            texts: Texts::new(alloc),
+            newest: Part::Designs,
+        }
+    }
+
+    /// Follows a line.
+    pub fn follow(&mut self, rt: &(impl Print + AllocGlobal), line: &str) -> Result<()> {
+        let (first, rest) = line.split_once(' ').unwrap_or((line, ""));
+        if let Some(part) = Part::named(first) {
+            self.texts.begin(part);
+            self.newest = part;
+            return Ok(());
+        }
+        match first {
+            "|" => self.texts.append(self.newest, rest),
+            "ask" => ask(rt, &self.texts, false, rest),
+            "compare" => ask(rt, &self.texts, true, rest),
+            "cut" => print_begins(rt, rest),
+            "tally" => print_tally(rt, self.texts.values.as_str(), rest),
+            "#" | "" => Ok(()),
+            _ => bail!("no line of a script: {line}"),
+        }
+    }
+}
