@@ -22,7 +22,8 @@ def jumps(row, column):
 
 height = hills if shape == "smooth" else jumps
 with open(f"{folder}/heights.asc", "w") as out:
-    out.write(f"ncols {columns}\nnrows {rows}\nxllcorner -105.5\nyllcorner 39.5\ncellsize {spacing:.15f}\n")
+    out.write(f"ncols {columns}\nnrows {rows}\nxllcorner -105.5\nyllcorner 39.5\n")
+    out.write(f"cellsize {spacing:.15f}\n")
     for row in range(rows):
         out.write(" ".join(f"{height(row, column):.3f}" for column in range(columns)) + "\n")
 with open(f"{folder}/zone.wkt", "w") as out:

@@ -1,0 +1,39 @@
+#!/usr/bin/env bash
+# Processor time and peak memory of `design`, `check` and `eval`, beside those of the same program with
+# plain bodies: there each bound looks at every cell, and the whole cell list is run at every cell.
+# That program is made in a folder of its own: in `ldp_answer`, `CellByCell` takes the place of `Plain`;
+# in `ldp_distortion`, no run of a cell list keeps anything. The crates above are proved and built anew.
+# The problems are the example over the front range, and one zone cut into more and more cells: give
+# the sizes, as 488x408, or take those that end soon. Build the program of crates/ldp before:
+# (cd crates/ldp && rt run -- sample 1)
+set -eu
+here=$(cd "$(dirname "$0")" && pwd)
+folder=$(mktemp -d)
+trap 'rm -rf "$folder"' EXIT
+git clone -q "$here/.." "$folder/plain"
+(
+  cd "$folder/plain/crates"
+  sed -i 's/^use ldp_bound::{Bounds, Cost, Plain};/use ldp_bound::{Bounds, CellByCell as Plain, Cost};/' ldp_answer/src/design.rt
+  sed -i 's/^use ldp_bound::Plain;/use ldp_bound::CellByCell as Plain;/' ldp_answer/src/check.rt
+  sed -i '/^        if self.ran && /,/^        }/d' ldp_distortion/src/cell_runs.rt
+  sed -i '/^pub returns-then-/,/^$/d' ldp_distortion/proofs/cell_runs/CellRuns/run/Answers.antt
+  cd ldp
+  rt run -- sample 1 > "$folder/said"
+)
+compare() {
+  python3 "$here/measure.py" "$here/../crates/ldp/out/ldp" "$1" "$2 stretches"
+  python3 "$here/measure.py" "$folder/plain/crates/ldp/out/ldp" "$1" "$2 plain"
+}
+mkdir "$folder/front_range"
+cp "$here/../examples/front_range.wkt" "$folder/front_range/zone.wkt"
+cp "$here/../examples/front_range.asc" "$folder/front_range/heights.asc"
+cp "$here/../examples/front_range.toml" "$folder/front_range/designs.toml"
+compare "$folder/front_range" front_range
+sizes=("$@")
+if [ ${#sizes[@]} = 0 ]; then
+  sizes=(28x24 35x29 61x51 122x102)
+fi
+for size in "${sizes[@]}"; do
+  python3 "$here/make_zone.py" "$folder" "${size%x*}" "${size#*x}" smooth
+  compare "$folder" "$size"
+done
