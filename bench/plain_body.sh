@@ -16,7 +16,8 @@ git clone -q "$here/.." "$folder/plain"
   sed -i 's/^use ldp_bound::{Bounds, Cost, Plain};/use ldp_bound::{Bounds, CellByCell as Plain, Cost};/' ldp_answer/src/design.rt
   sed -i 's/^use ldp_bound::Plain;/use ldp_bound::CellByCell as Plain;/' ldp_answer/src/check.rt
   sed -i '/^        if self.ran && /,/^        }/d' ldp_distortion/src/cell_runs.rt
-  sed -i '/^pub returns-then-/,/^$/d' ldp_distortion/proofs/cell_runs/CellRuns/run/Answers.antt
+  sed -i -e '/^pub returns-then-/,/^$/d' -e 's/steps-2/steps/' \
+    ldp_distortion/proofs/cell_runs/CellRuns/run/Answers.antt
   cd ldp
   rt run -- sample 1 > "$folder/said"
 )
