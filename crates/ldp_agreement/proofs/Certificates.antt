@@ -1,7 +1,7 @@
 -- No reason stands against the certificate of the best design.
 use Rattle.std.proofs.Common.{◌≡◌, ℕ, pos, Bool, true, not, ◌&&◌, List, [], ◌∷◌, Option, None}
 use Rattle.std.proofs.Common.{Some, refl, sym, ap, subst, ◌∙◌, ◌⊎◌, inl, inr}
-use Rattle.std.proofs.lemmas.Bool.{lt-ltb, eq-eqb}
+use Rattle.std.proofs.lemmas.Bool.{eq-eqb}
 use Rattle.std.proofs.lemmas.Bool.Decides.{Decides-int_eq}
 use Rattle.std.proofs.lemmas.Slice.Eq.{bytes_eq-Decides}
 use Rattle.std.specs.Prelude.{ℤ, unsigned_abs, option_map, position, bytes_eq}
@@ -9,10 +9,9 @@ use Rattle.std.specs.Ordering.{int_eq}
 use Rattle.std.specs.Bool.{then_some}
 use Rattle.ldp_design.specs.declared.family.Kind.{Kind}
 use Rattle.ldp_design.specs.declared.family.Kind.TheVariants.{Tm, Lambert, Hotine, Lambert2}
-use Rattle.ldp_design.specs.declared.family.Family.{Family}
-use Rattle.ldp_design.specs.declared.design.Design.{Design}
 use Rattle.ldp_design.specs.Families.{AreGrids}
-use Rattle.ldp_design.specs.Designs.{IsDesignOf, IsAdmitted}
+use Rattle.ldp_design.specs.Designs.{is_admitted}
+use Rattle.ldp_design.proofs.Wholes.{admitted_are_tested}
 use Rattle.ldp_design.specs.Forests.{node_count, start, IsWellShaped}
 use Rattle.ldp_cells.specs.Cells.{CellList}
 use Rattle.ldp_problem.specs.declared.pair.Pair.{Pair}
@@ -36,8 +35,8 @@ use Rattle.ldp_check.specs.Reports.{report_of, is_kind, differing_line}
 use Rattle.ldp_check.specs.Entries.{first_fault}
 use Rattle.ldp_check.specs.Verdicts.{input_differs, not_admitted, not_usable, over_differs}
 use Rattle.ldp_check.specs.Verdicts.{worst_differs, report_differs, forest_fault, other_over}
-use Rattle.ldp_check.specs.Verdicts.{other_worst, other_report, actual_report, has_design}
-use Rattle.ldp_check.specs.Verdicts.{is_design_of, is_admitted, first_some, reason_against}
+use Rattle.ldp_check.specs.Verdicts.{other_worst, other_report, actual_report}
+use Rattle.ldp_check.specs.Verdicts.{first_some, reason_against}
 use Rattle.ldp_check.specs.Verdicts.{verdict_by}
 use Rattle.ldp_agreement.specs.Certificates.{IsCertificateOf, share_of, BestAreAccepted}
 use Rattle.ldp_agreement.specs.Certificates.{BestAreShaped}
@@ -56,21 +55,6 @@ no_other_input : (present : Names) (named : Option Names) → (named ≡ None) �
 no_other_input present named (inl e) = rw e refl
 no_other_input present named (inr e) =
     rw (e, same_bytes present.zone, same_bytes present.heights, same_bytes present.grids) refl
-
--- the design is admissible and usable
-design_has : (f : Family) (d : Design) → IsDesignOf f d → has_design f d ≡ true
-design_has f d h =
-    all _ _ _ _
-    (lt-ltb d.lat f.lat.count h.lat) (lt-ltb d.lon f.lon.count h.lon)
-    (lt-ltb d.azimuth f.azimuth.count h.azimuth) (lt-ltb d.scale f.scale.count h.scale)
-  where
-    all : (s t u v : Bool) → s ≡ true → t ≡ true → u ≡ true → v ≡ true
-        → ((s && t) && (u && v)) ≡ true
-    all s t u v a b c d = rw (a, b, c, d) refl
-
-admitted_is : (families : List Family) (d : Design) → IsAdmitted families d
-    → is_admitted families d ≡ true
-admitted_is families d h = ap (λ f. is_design_of f d) h.found ∙ design_has h.family d h.within
 
 -- its over and its worst are the printed ones
 same_over : (tolerance : Option ℕ) (over : ℕ) → other_over (share_of tolerance over) over ≡ None
@@ -150,7 +134,8 @@ no_reason p list names x job sound grids is h =
     (over_differs p job) (worst_differs p job) (report_differs p list job) (forest_fault p job)
     (ap (option_map OtherInput) (no_other_input names job.names h.names))
     (ap (λ t. then_some (not t) NotAdmissible)
-    (ap (is_admitted p.families) h.design ∙ admitted_is p.families x.design ranked.admitted))
+    (ap (is_admitted p.families) h.design
+    ∙ (admitted_are_tested p.families x.design).1 ranked.admitted))
     (ap (option_map DesignUnusable)
     (ap (first_undefined p) h.design ∙ usable_has_none p x.design rank.usable))
     (ap (λ c. other_over job.share c.over) cost_is

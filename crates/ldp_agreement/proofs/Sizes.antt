@@ -1,5 +1,5 @@
--- How long a canonical forest is, and the list of what is so at each cell.
-use Rattle.std.proofs.Common.{◌≡◌, ◌≤◌, ◌+◌, ℕ, zero, suc, List, [], ◌∷◌, length}
+-- How long a canonical forest is.
+use Rattle.std.proofs.Common.{◌≡◌, ◌≤◌, ◌+◌, ℕ, zero, suc, List, ◌∷◌, length}
 use Rattle.std.proofs.Common.{Option, refl, ap, subst, ◌∙◌, arith}
 use Rattle.std.proofs.lemmas.List.{length-append}
 use Rattle.ldp_design.specs.declared.design_box.DesignBox.{DesignBox}
@@ -10,7 +10,6 @@ use Rattle.ldp_design.specs.Splits.{parts_at}
 use Rattle.ldp_design.proofs.Wholes.{wholes_hold}
 use Rattle.ldp_problem.specs.declared.pair.Pair.{Pair}
 use Rattle.ldp_problem.specs.Problem.{Problem}
-use Rattle.ldp_problem.specs.Costs.{at_cells}
 use Rattle.ldp_optimum.specs.Best.{least}
 use Rattle.ldp_optimum.specs.Forest.{tree_of, first_trees, forest, needed}
 use Rattle.ldp_optimum.specs.Trees.{IsTreeOf}
@@ -19,11 +18,6 @@ use Rattle.ldp_optimum.proofs.Trees.{trees_are_trees, split_counts}
 use Rattle.ldp_optimum.proofs.Forests.{next_tree, next_tree_counts, all_trees}
 use Rattle.ldp_agreement.specs.Texts.{IsPrintable}
 use Rattle.ldp_agreement.proofs.Forests.{whole_at}
-
-pub length-at_cells : {A : Type 0} (f : ℕ → A) (n : ℕ) → length (at_cells f n) ≡ n
-length-at_cells f zero = refl
-length-at_cells f (suc n) =
-    length-append (at_cells f n) (f n ∷ []) ∙ omega (arith, length-at_cells f n)
 
 -- a tree has nodes alone
 tree_length : (p : Problem) (w : Option Pair) (b : DesignBox) (ns : List Node)

@@ -20,7 +20,8 @@ use Rattle.ldp_agreement.specs.Certificates.{share_of}
 use Rattle.ldp_agreement.specs.Texts.{IsPrintable, BestHaveTexts, BestAreReadBack}
 use Rattle.ldp_agreement.proofs.Certificates.{best_are_shaped}
 use Rattle.ldp_agreement.proofs.Entries.{forest_entries}
-use Rattle.ldp_agreement.proofs.Sizes.{length-at_cells, forest_length}
+use Rattle.ldp_problem.proofs.Cells.{length-at_cells}
+use Rattle.ldp_agreement.proofs.Sizes.{forest_length}
 
 design_valid : (p : Problem) (d : Design) → IsPrintable p → IsAdmitted p.families d → IsDesign d
 design_valid p d h admitted =

@@ -1,26 +1,23 @@
 -- A walk along the nodes of a box finds no fault in them.
-use Rattle.std.proofs.Common.{◌≡◌, ◌≤◌, ◌+◌, ℕ, pos, Bool, true, false, cond, not, ◌&&◌, ◌||◌}
+use Rattle.std.proofs.Common.{◌≡◌, ◌+◌, ℕ, pos, Bool, true, false, cond, not, ◌&&◌, ◌||◌}
 use Rattle.std.proofs.Common.{List, ◌∷◌, ◌++◌, append_assoc, Option, None, Some, refl, sym}
 use Rattle.std.proofs.Common.{ap, subst, ◌∙◌, arith}
 use Rattle.std.proofs.lemmas.Bool.Decides.{nat_tests}
 use Rattle.std.proofs.lemmas.Bool.{lt-ltb, le-leb}
-use Rattle.std.specs.Prelude.{option_and_then, is_none, nat_lt, nat_le}
+use Rattle.std.specs.Prelude.{is_none, nat_lt, nat_le}
 use Rattle.std.specs.Bool.{then_some}
 use Rattle.std.specs.Option.{option_or}
 use Rattle.ldp_design.specs.declared.axis.AxisName.{AxisName}
-use Rattle.ldp_design.specs.declared.axis.AxisName.TheVariants.{Lat, Lon, Azimuth, Scale}
-use Rattle.ldp_design.specs.declared.family.Family.{Family}
 use Rattle.ldp_design.specs.declared.design.Design.{Design}
 use Rattle.ldp_design.specs.declared.design_box.DesignBox.{DesignBox}
 use Rattle.ldp_design.specs.declared.node.Node.{Node}
 use Rattle.ldp_design.specs.Families.{AreGrids}
-use Rattle.ldp_design.specs.Designs.{index_of, IsAdmitted}
-use Rattle.ldp_design.specs.Boxes.{span_of, is_single, IsIn, IsSingle, LiesIn, first_of}
-use Rattle.ldp_design.specs.Splits.{parts_at, IsCut, family_cut, middle}
-use Rattle.ldp_design.specs.Measures.{widest}
+use Rattle.ldp_design.specs.Designs.{IsAdmitted}
+use Rattle.ldp_design.specs.Boxes.{span_of, is_single, LiesIn, first_of}
+use Rattle.ldp_design.specs.Splits.{parts_at, IsCut}
 use Rattle.ldp_design.proofs.Cuts.{cuts_part}
-use Rattle.ldp_design.proofs.Splits.{splits_cut, singles_end}
-use Rattle.ldp_design.proofs.Wholes.{boxes_are_admitted}
+use Rattle.ldp_design.proofs.Splits.{splits_cut, singles_are_tested}
+use Rattle.ldp_design.proofs.Wholes.{firsts_are_admitted}
 use Rattle.ldp_problem.specs.declared.pair.Pair.{Pair}
 use Rattle.ldp_problem.specs.Problem.{Problem, IsSound}
 use Rattle.ldp_problem.specs.Pairs.{is_smaller, AtMost}
@@ -46,21 +43,6 @@ pub record IsLeast (p : Problem) (w : Pair) : Type 0 where
   pub least : (d : Design) → IsAdmitted p.families d → IsUsable p d → AtMost w (cost p d)
   pub uncounted : p.tolerance ≡ None → w.over ≡ 0
 
-first_in : (families : List Family) (b : DesignBox) → LiesIn families b → IsIn (first_of b) b
-first_in families b h = record { family = refl; low = low; high = high }
-  where
-    low : (a : AxisName) → (span_of a b).lo ≤ index_of a (first_of b)
-    low Lat = omega arith
-    low Lon = omega arith
-    low Azimuth = omega arith
-    low Scale = omega arith
-
-    high : (a : AxisName) → index_of a (first_of b) ≤ (span_of a b).hi
-    high Lat = h.within.some Lat
-    high Lon = h.within.some Lon
-    high Azimuth = h.within.some Azimuth
-    high Scale = h.within.some Scale
-
 -- the test of a single, by the two answers that a box may have
 single_when : (p : Problem) (b : DesignBox) (cell : ℕ) → unusable_at p b ≡ Some cell
     → (is_single b ≡ true) × (first_undefined p (first_of b) ≡ Some cell)
@@ -76,15 +58,6 @@ usable_when : (p : Problem) (b : DesignBox) → is_single b ≡ true → unusabl
     → first_undefined p (first_of b) ≡ None
 usable_when p b s u =
     sym (ap (λ t. cond {A = Option ℕ} t (first_undefined p (first_of b)) None) s) ∙ u
-
-single_of : (families : List Family) (b : DesignBox) → LiesIn families b → is_single b ≡ true
-    → IsSingle b
-unfolding family_cut
-single_of families b h t =
-    (singles_end families b h).0
-    (ap (option_and_then (λ f. family_cut f b)) h.found
-    ∙ ap (λ u. cond {A = Option (AxisName × ℕ)} u None
-    (Some (widest h.family b, middle (widest h.family b) b))) t)
 
 -- an entry `Unusable`
 sound_unusable : (p : Problem) (w : Pair) (line cell : ℕ) (b : DesignBox)
@@ -114,10 +87,9 @@ closed_shows p w b sound l h u t = by_test (is_single b) refl t
         → AtMost w (bound p b)
     by_test false s above = smaller_at_most w (bound p b) above
     by_test true s any =
-        let same = single_exact p b sound h (single_of p.families b h s) in
+        let same = single_exact p b sound h ((singles_are_tested b).0 s) in
         subst (AtMost w) (sym same.0)
-        (l.least (first_of b)
-        (boxes_are_admitted p.families b (first_of b) h (first_in p.families b h))
+        (l.least (first_of b) (firsts_are_admitted p.families b h)
         (none_undefined p (first_of b) (usable_when p b s u)))
 
 -- an entry `Leaf` at the cell of the bound

@@ -2,6 +2,7 @@
 use Rattle.std.specs.Prelude.{◌≡◌, ◌≤◌, ◌⊎◌, ℕ, pos, Option, None, Some, option_map}
 use Rattle.ldp_design.specs.Families.{AreGrids}
 use Rattle.ldp_design.specs.Forests.{IsWellShaped}
+use Rattle.ldp_design.specs.Limits.{most_nodes}
 use Rattle.ldp_cells.specs.Cells.{CellList}
 use Rattle.ldp_problem.specs.Problem.{Problem, IsSound}
 use Rattle.ldp_problem.specs.Costs.{worst_cell}
@@ -41,7 +42,7 @@ BestAreAccepted = (p : Problem) (list : CellList) (names : Names) (x : Ranked) (
 -- its forest is well shaped where it has no more nodes than a forest may have
 abbrev pub BestAreShaped : Type 0
 BestAreShaped = (p : Problem) (list : CellList) (names : Names) (x : Ranked) (job : Job)
-    → AreGrids p.families → needed p ≤ 2_000_000 → IsCertificateOf p list names x job
+    → AreGrids p.families → needed p ≤ most_nodes → IsCertificateOf p list names x job
     → IsWellShaped job.forest
 
 -- its tolerance is that of the problem

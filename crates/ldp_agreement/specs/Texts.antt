@@ -1,6 +1,7 @@
 -- The certificate of the best design has a text, which is read back and is short.
 use Rattle.std.specs.Prelude.{◌≡◌, ◌<◌, ◌≤◌, length, Some, IfSome, Ok}
 use Rattle.ldp_design.specs.Families.{AreGrids}
+use Rattle.ldp_design.specs.Limits.{most_tolerance}
 use Rattle.ldp_cells.specs.Cells.{CellList}
 use Rattle.ldp_problem.specs.Problem.{Problem}
 use Rattle.ldp_job.specs.declared.names.Names.{Names}
@@ -19,7 +20,7 @@ pub record IsPrintable (p : Problem) : Type 0 where
   pub some_cell : 0 < p.cells
   pub few_cells : p.cells ≤ 200_000
   pub few_nodes : needed p ≤ 1_000_000
-  pub tolerance : IfSome p.tolerance (λ t. t ≤ 1_000_000_000_000_000)
+  pub tolerance : IfSome p.tolerance (λ t. t ≤ most_tolerance)
 
 -- what they ask of their own names, worst distortion and report
 pub record AreValues (j : Job) : Type 0 where

@@ -17,7 +17,7 @@ use Rattle.ldp_job.specs.Values.{IsJob}
 use Rattle.ldp_check.specs.Reports.{report_of}
 use Rattle.ldp_check.specs.Verdicts.{verdict_of}
 use Rattle.ldp_check.specs.declared.verdict.Verdict.TheVariants.{Accepted}
-use Rattle.ldp_bound.specs.Plain.{plain_problem}
+use Rattle.ldp_answer.specs.Problem.{problem_over}
 use Rattle.ldp_bound.proofs.Sound.{plain_sound}
 use Rattle.ldp_optimum.specs.Best.{Ranked, best}
 use Rattle.ldp_optimum.specs.Forest.{needed}
@@ -98,9 +98,9 @@ named_so (Some names) = inr refl
 printable : (families : List Family) (list : CellList) (tolerance : Option ℤ) (budget : ℕ)
     → AreGrids families → 0 < length list.cells → length list.cells ≤ 200_000
     → IfSome tolerance (IsBetween (pos 0) (pos (10 ^ 15)))
-    → needed (plain_problem families list.cells (option_map unsigned_abs tolerance)) ≤ budget
+    → needed (problem_over families list.cells (option_map unsigned_abs tolerance)) ≤ budget
     → budget ≤ 1_000_000
-    → IsPrintable (plain_problem families list.cells (option_map unsigned_abs tolerance))
+    → IsPrintable (problem_over families list.cells (option_map unsigned_abs tolerance))
 printable families list tolerance budget g some few within enough most = record {
   grids = g;
   some_cell = some;
@@ -128,14 +128,14 @@ pub record IsKnown (families : List Family) (list : CellList) (names : Option Na
   pub few : length list.cells ≤ 200_000
   pub within : IfSome tolerance (IsBetween (pos 0) (pos (10 ^ 15)))
   pub most : budget ≤ 1_000_000
-  pub printed : IsPrinted (plain_problem families list.cells (option_map unsigned_abs tolerance))
+  pub printed : IsPrinted (problem_over families list.cells (option_map unsigned_abs tolerance))
       list names tolerance budget f j
   pub values : AreValues j
 
 module _ (families : List Family) (list : CellList) (names : Option Names) (tolerance : Option ℤ)
     (budget : ℕ) (f : Found) (j : Job) (h : IsKnown families list names tolerance budget f j) where
   abbrev problem : Problem
-  problem = plain_problem families list.cells (option_map unsigned_abs tolerance)
+  problem = problem_over families list.cells (option_map unsigned_abs tolerance)
 
   abbrev best_of : Ranked
   best_of = record { design = f.design; cost = cost problem f.design }
@@ -172,7 +172,7 @@ module _ (families : List Family) (list : CellList) (names : Option Names) (tole
       h.printed.found.best (certified present named) in
       record {
         verdict = subst
-            (λ t. verdict_of (plain_problem families list.cells t) list present j ≡ Accepted)
+            (λ t. verdict_of (problem_over families list.cells t) list present j ≡ Accepted)
             (sym same_tolerance)
             (best_are_accepted problem list present best_of j
             (plain_sound families list.cells (option_map unsigned_abs tolerance) h.grids h.some)

@@ -8,7 +8,7 @@ use Rattle.ldp_message.specs.Refusal.{or_refused}
 use Rattle.ldp_message.specs.declared.refusal.Refusal.{Refusal}
 use Rattle.ldp_message.specs.declared.refusal.Refusal.TheVariants as refusals
 
--- there is a cell
+-- the cells, if there is one, else the refusal `no cell`
 abbrev pub some_cells : CellList → Result CellList Refusal
 some_cells list = if length list.cells == 0 then Err refusals.NoCell else Ok list
 

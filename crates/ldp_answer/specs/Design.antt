@@ -6,7 +6,7 @@ use Rattle.ldp_design.specs.declared.family.Family.{Family}
 use Rattle.ldp_cells.specs.Cells.{CellList}
 use Rattle.ldp_problem.specs.Problem.{Problem}
 use Rattle.ldp_problem.specs.Costs.{worst_cell}
-use Rattle.ldp_bound.specs.Plain.{plain_problem}
+use Rattle.ldp_answer.specs.Problem.{problem_over}
 use Rattle.ldp_optimum.specs.Best.{Ranked, best}
 use Rattle.ldp_optimum.specs.Forest.{forest, needed}
 use Rattle.ldp_job.specs.declared.names.Names.{Names}
@@ -53,11 +53,12 @@ search_job p list names budget =
     if nat_lt budget (needed p) then Err (refusals.BudgetSpent budget)
     else best_certificate p list names (best p)
 
--- the same over cells and design grids
+-- the certificate over cells and design grids; the tolerance is in units of 10^-15
 abbrev pub job_over : CellList → List Family → Option Names → ℕ → Option ℕ → Result Job Refusal
 job_over list families names budget tolerance =
-    search_job (plain_problem families list.cells tolerance) list names budget
+    search_job (problem_over families list.cells tolerance) list names budget
 
+-- the text of the job that the search found
 abbrev pub job_answer : Job → Answer
 job_answer j = record { rejected = false; text = job_text j }
 

@@ -30,11 +30,12 @@ answer_at list value (Some cell) =
     }
 answer_at list value None = Err refusals.NoUsableDesign
 
--- the answer for a worst
+-- the answer for a worst; a refusal if the design is undefined at a cell
 abbrev pub worst_answer : CellList → Worst → Result Answer Refusal
 worst_answer list (Is value cell) = answer_at list value (slice_get list.cells cell)
 worst_answer list (Unusable cell) = Err refusals.NoUsableDesign
 
+-- the worst of a central design at all cells of the grid, or why there is none
 abbrev pub eval_over : HeightGrid → CentralDesign → Result Answer Refusal
 eval_over grid design = do
   list ← area_read grid

@@ -13,7 +13,7 @@ worst_line ppm row column =
     codes "worst " ++ (ppm ++ (codes " ppm at "
     ++ (decimal row ++ (codes " " ++ (decimal column ++ codes "\n")))))
 
--- a unit of the worst is 10^-9 ppm
+-- both lines; the worst is in units of 10^-15, so with nine decimals in ppm
 abbrev pub eval_text : ℕ → ℕ → ℤ → ℕ → ℕ → List ℕ
 eval_text cells missing worst row column =
     cells_line cells missing ++ worst_line (decimal_text 9 worst) row column

@@ -19,6 +19,7 @@ pub record IsUpgraded (list : CellList) (families : List Family) (names : Names)
   pub same : upgrade_over list families names (named names j)
       ≡ record { rejected = false; text = text }
 
+-- what `upgrade` prints is read back, accepted over the same files, and upgraded to itself
 abbrev pub UpgradedAreAccepted : Type 0
 UpgradedAreAccepted = (list : CellList) (families : List Family) (names : Names) (j : Job)
     (text : List ℕ) → AreNames names → IsJob j

@@ -3,6 +3,7 @@ pub mod Cells
 pub mod Central
 pub mod EvalText
 pub mod Eval
+pub mod Problem
 pub mod Rejection
 pub mod Check
 pub mod JobDesign

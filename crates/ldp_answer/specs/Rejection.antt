@@ -8,6 +8,7 @@ use Rattle.ldp_check.specs.declared.reason.Reason.{Reason}
 use Rattle.ldp_check.specs.declared.reason.Reason.TheVariants as reasons
 use Rattle.ldp_answer.specs.declared.answer.Answer.{Answer}
 
+-- a reason names so the file that is not the one of the certificate
 abbrev pub role_text : Role → List ℕ
 role_text roles.Zone = codes "Zone"
 role_text roles.Heights = codes "Heights"
@@ -17,6 +18,8 @@ role_text roles.Grids = codes "Grids"
 abbrev pub two_values : List ℕ → List ℕ → List ℕ
 two_values first second = first ++ (codes " " ++ second)
 
+-- a reason's name and its values: a cell counts from 0, a line and a family from 1, and a
+-- distortion is in units of 10^-15
 abbrev pub reason_text : Reason → List ℕ
 reason_text (reasons.OtherInput which) = codes "OtherInput " ++ role_text which
 reason_text reasons.NotAdmissible = codes "NotAdmissible"

@@ -22,7 +22,8 @@ use Rattle.ldp_answer.specs.declared.answer.Answer.{Answer}
 abbrev pub sample_budget : ℕ
 sample_budget = 1_000_000
 
--- hashes for the checker: a job of version 1 names no files, so none bear on its verdict
+-- hashes for the checker; a job of version 1 names no files, so its verdict is the same whatever
+-- they are
 abbrev pub no_files : Names
 no_files =
     record { zone = replicate 32 0; heights = replicate 32 0; grids = replicate 32 0 }

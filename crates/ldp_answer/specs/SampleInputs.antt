@@ -26,6 +26,7 @@ sample_header =
 abbrev pub next_state : ℕ → ℕ
 next_state x = (1103515245 * x + 12345) % 2 ^ 31
 
+-- the state of the generator after so many steps from a seed
 abbrev pub state_after : ℕ → ℕ → ℕ
 state_after seed zero = seed
 state_after seed (suc steps) = next_state (state_after seed steps)
@@ -58,5 +59,6 @@ sample_family n = record {
   northing = pos 0;
 }
 
+-- the design grids of the sample: this family alone
 abbrev pub sample_families : ℕ → List Family
 sample_families n = sample_family n ∷ []

@@ -24,7 +24,7 @@ use Rattle.ldp_answer.specs.declared.answer.Answer.{Answer}
 use Rattle.ldp_answer.specs.declared.form.TableForm.{TableForm}
 use Rattle.ldp_answer.specs.declared.form.TableForm.TheVariants.{Lines, Json}
 
--- the inputs of the design list
+-- the inputs of the design list, as ldp_distortion holds them
 abbrev pub list_inputs : Inputs4 → Inputs
 list_inputs at = record { lat = at.lat; lon = at.lon; azimuth = at.azimuth; scale = at.scale }
 
@@ -45,14 +45,16 @@ table_of_worst form list found (Is value cell) =
     record { rejected = false; text = form_text form list found }
 table_of_worst form list found (Unusable cell) = rejection (DesignUnusable cell)
 
+-- the table of a design with these distortions; a rejection if one is undefined
 abbrev pub found_answer : TableForm → CellList → List (Option ℤ) → Answer
 found_answer form list found = table_of_worst form list found (worst_of found)
 
+-- the table of a design of a family; a rejection if there is no such family
 abbrev pub design_answer : TableForm → CellList → Design → Option Family → Answer
 design_answer form list d None = rejection NotAdmissible
 design_answer form list d (Some f) = found_answer form list (design_distortions list d f)
 
--- the names are the hashes of the three files
+-- what `table` answers; the names are the hashes of the three files
 abbrev pub table_over : TableForm → CellList → List Family → Names → Job → Answer
 table_over form list families names job =
     over_files (other_input names job.names)

@@ -13,7 +13,7 @@ use Rattle.ldp_answer.specs.Rejection.{rejection}
 use Rattle.ldp_answer.specs.JobDesign.{over_files, admitted_family}
 use Rattle.ldp_answer.specs.declared.answer.Answer.{Answer}
 
--- the grids, where their hash is not the one that a job has; of its other files nothing is asked
+-- the design grids, if the job names some with another hash; its other files are not looked at
 abbrev pub other_grids : List ℕ → Option Names → Option Role
 other_grids hash None = None
 other_grids hash (Some named) = if bytes_eq hash named.grids then None else Some Grids
@@ -23,7 +23,7 @@ abbrev pub line_answer : Design → Option Family → Answer
 line_answer d None = rejection NotAdmissible
 line_answer d (Some f) = record { rejected = false; text = crs_text (crs_at f d) }
 
--- the hash is that of the grids
+-- what `wkt` answers; the hash is that of the file of design grids
 abbrev pub wkt_over : List Family → List ℕ → Job → Answer
 wkt_over families hash job =
     over_files (other_grids hash job.names)

@@ -27,9 +27,9 @@ pub fn check_over(
     requires some { 0 < length cells.now.cells }
     requires job { IsJob job.now }
     ensures answer { IfOk result (λ answer.
-        answer ≡ check_over cells.now grids.now names.now job.now) }
+        answer ≡ check_over cells.now grids.now.families names.now job.now) }
     ensures proved { IfOk result (λ answer. answer.rejected ≡ false
-        → IsProved (job_problem cells.now grids.now job.now) job.now) }
+        → IsProved (job_problem cells.now grids.now.families job.now) job.now) }
 {
     match verdict_over(alloc, cells, grids, names, job)? {
         Verdict::Accepted => accepted(alloc),
@@ -60,9 +60,9 @@ pub fn verdict_over(
     requires some { 0 < length cells.now.cells }
     requires job { IsJob job.now }
     ensures verdict { IfOk result (λ verdict.
-        verdict ≡ verdict_over cells.now grids.now names.now job.now) }
+        verdict ≡ verdict_over cells.now grids.now.families names.now job.now) }
     ensures proved { result ≡ Ok Verdict.Accepted
-        → IsProved (job_problem cells.now grids.now job.now) job.now }
+        → IsProved (job_problem cells.now grids.now.families job.now) job.now }
 {
     let mut bounds = Plain::new(alloc, grids, cells, tolerance_of(&job.share))?;
     check(alloc, &mut bounds, grids, cells, names, job)

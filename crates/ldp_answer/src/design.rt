@@ -8,7 +8,7 @@ ghost use Rattle.ldp_problem.specs.Costs.{IsUsable, cost};
 ghost use Rattle.ldp_job.specs.Values.{AreNames, IsWorst, IsJob};
 ghost use Rattle.ldp_job.specs.declared.names.Names.{Names as NamesValue};
 ghost use Rattle.ldp_check.specs.Reports.{report_of};
-ghost use Rattle.ldp_bound.specs.Plain.{plain_problem};
+ghost use Rattle.ldp_answer.specs.Problem.{problem_over};
 ghost use Rattle.ldp_search.specs.Search.{IsFound, HasCost};
 ghost use Rattle.ldp_agreement.specs.Certificates.{share_of};
 ghost use Rattle.ldp_agreement.specs.Texts.{AreValues};
@@ -41,10 +41,10 @@ pub fn design_over(
     requires names { AreNames names.now }
     requires few { budget ≤ 1_000_000 }
     requires tolerance { IfSome tolerance (IsBetween (pos 0) (pos (10 ^ 15))) }
-    ensures answer { Works result (design_over cells.now grids.now names.now budget
+    ensures answer { Works result (design_over cells.now grids.now.families names.now budget
         (option_map unsigned_abs tolerance)) }
     ensures accepted { IfOk result (λ answer.
-        IsAcceptedText cells.now grids.now names.now answer.text) }
+        IsAcceptedText cells.now grids.now.families names.now answer.text) }
 {
     let job = job_over(alloc, cells, grids, Some(*names), budget, tolerance)?;
     let text = write_job(alloc, &job)?;
@@ -68,11 +68,11 @@ pub fn job_over(
     requires names { IfSome names AreNames }
     requires few { budget ≤ 1_000_000 }
     requires tolerance { IfSome tolerance (IsBetween (pos 0) (pos (10 ^ 15))) }
-    ensures job { Works result (job_over cells.now grids.now names budget
+    ensures job { Works result (job_over cells.now grids.now.families names budget
         (option_map unsigned_abs tolerance)) }
     ensures valid { IfOk result IsJob }
     ensures accepted { IfOk result (λ job. (present : NamesValue) → AreNamed names present
-        → IsAcceptedJob cells.now grids.now present job) }
+        → IsAcceptedJob cells.now grids.now.families present job) }
 {
     let found = found_over(alloc, cells, grids, budget, tolerance)?;
     Ok(certificate(cells, grids, names, budget, tolerance, found))
@@ -90,14 +90,15 @@ fn found_over(
     requires few { budget ≤ 1_000_000 }
     requires tolerance { IfSome tolerance (IsBetween (pos 0) (pos (10 ^ 15))) }
     ensures found { IfOk result (IsFound
-        (plain_problem grids.now cells.now.cells (option_map unsigned_abs tolerance)) budget) }
-    ensures admitted { IfOk result (λ f. IsAdmitted grids.now f.design) }
+        (problem_over grids.now.families cells.now.cells (option_map unsigned_abs tolerance))
+        budget) }
+    ensures admitted { IfOk result (λ f. IsAdmitted grids.now.families f.design) }
     ensures cost { IfOk result (HasCost
-        (plain_problem grids.now cells.now.cells (option_map unsigned_abs tolerance))) }
+        (problem_over grids.now.families cells.now.cells (option_map unsigned_abs tolerance))) }
     ensures number { IfOk result (λ f. IsWorst f.worst) }
     ensures refused { IfErr result (λ fault. (names : Option NamesValue)
         → Works (Err fault) (search_job
-        (plain_problem grids.now cells.now.cells (option_map unsigned_abs tolerance))
+        (problem_over grids.now.families cells.now.cells (option_map unsigned_abs tolerance))
         cells.now names budget)) }
 {
     let mut bounds = Plain::new(alloc, grids, cells, tolerance)?;
@@ -111,10 +112,10 @@ fn found_by(
     grids: &Grids,
     budget: u32,
 ) -> Result<Found, WorkFault>
-    requires grids { (⟦<Plain as Bounds>⟧.problem bounds.old).families ≡ grids.now }
+    requires grids { (⟦<Plain as Bounds>⟧.problem bounds.old).families ≡ grids.now.families }
     requires few { budget ≤ 1_000_000 }
     ensures found { IfOk result (IsFound (⟦<Plain as Bounds>⟧.problem bounds.old) budget) }
-    ensures admitted { IfOk result (λ f. IsAdmitted grids.now f.design) }
+    ensures admitted { IfOk result (λ f. IsAdmitted grids.now.families f.design) }
     ensures cost { IfOk result (HasCost (⟦<Plain as Bounds>⟧.problem bounds.old)) }
     ensures number { IfOk result (λ f. IsWorst f.worst) }
     ensures refused { IfErr result (λ fault. (list : CellList) (names : Option NamesValue)
@@ -156,16 +157,18 @@ fn certificate(
     requires few { budget ≤ 1_000_000 }
     requires tolerance { IfSome tolerance (IsBetween (pos 0) (pos (10 ^ 15))) }
     requires found { IsFound
-        (plain_problem grids.now cells.now.cells (option_map unsigned_abs tolerance)) budget found }
-    requires admitted { IsAdmitted grids.now found.design }
+        (problem_over grids.now.families cells.now.cells (option_map unsigned_abs tolerance))
+        budget found }
+    requires admitted { IsAdmitted grids.now.families found.design }
     requires cost { HasCost
-        (plain_problem grids.now cells.now.cells (option_map unsigned_abs tolerance)) found }
+        (problem_over grids.now.families cells.now.cells (option_map unsigned_abs tolerance))
+        found }
     requires number { IsWorst found.worst }
-    ensures job { job_over cells.now grids.now names budget (option_map unsigned_abs tolerance)
-        ≡ Ok result }
+    ensures job { job_over cells.now grids.now.families names budget
+        (option_map unsigned_abs tolerance) ≡ Ok result }
     ensures valid { IsJob result }
     ensures accepted { (present : NamesValue) → AreNamed names present
-        → IsAcceptedJob cells.now grids.now present result }
+        → IsAcceptedJob cells.now grids.now.families present result }
 {
     // These calls tell what the grids and the cells keep.
     let _families = grids.families();
@@ -181,7 +184,7 @@ fn job_of(
     tolerance: Option<i128>,
     found: Found,
 ) -> Job
-    requires admitted { IsAdmitted grids.now found.design }
+    requires admitted { IsAdmitted grids.now.families found.design }
     requires cell { found.cell < length cells.now.cells }
     requires names { IfSome names AreNames }
     requires tolerance { IfSome tolerance (IsBetween (pos 0) (pos (10 ^ 15))) }
@@ -190,8 +193,8 @@ fn job_of(
     ensures design { result.design ≡ found.design }
     ensures worst { result.worst ≡ found.worst }
     ensures share { result.share ≡ share_of (option_map unsigned_abs tolerance) found.over }
-    ensures report { report_of grids.now cells.now found.design found.worst found.cell found.nodes
-        ≡ Some result.report }
+    ensures report { report_of grids.now.families cells.now found.design found.worst found.cell
+        found.nodes ≡ Some result.report }
     ensures forest { result.forest ≡ found.forest }
     ensures values { AreValues result }
 {

@@ -1,5 +1,6 @@
 ghost use Rattle.std.specs.Prelude.{◌≡◌, ◌/◌, ◌<◌, pos, IfOk};
 ghost use Rattle.ldp_design.specs.Families.{IsValid, single_axis};
+ghost use Rattle.ldp_design.specs.Grids.{plain_grids};
 ghost use Rattle.ldp_answer.specs.SampleInputs.{IsSampleNumber, sample_family, sample_families};
 
 use ldp_design::{Axis, Family, Grids, Kind};
@@ -8,7 +9,7 @@ use std::alloc::{AllocError, Global};
 /// The designs of a sample.
 pub fn sample_grids(alloc: Global, number: u32) -> Result<Grids, AllocError>
     requires { IsSampleNumber number }
-    ensures { IfOk result (λ grids. grids ≡ sample_families number) }
+    ensures { IfOk result (λ grids. grids ≡ plain_grids (sample_families number)) }
 {
     let mut grids = Grids::new(alloc);
     grids.push(sample_family(number))?;

@@ -1,5 +1,5 @@
 ghost use Rattle.std.specs.Prelude.{◌≡◌, ◌<◌, length, IfOk};
-ghost use Rattle.ldp_design.specs.Inputs.{AreNumbers as AreNumbers4};
+ghost use Rattle.ldp_design.specs.Laws.{AreNumbers as AreNumbers4};
 ghost use Rattle.ldp_bound.specs.Kinds.{family_lists};
 ghost use Rattle.ldp_distortion.specs.Distortion.{distortions};
 ghost use Rattle.ldp_distortion.specs.Inputs.{AreNumbers};
@@ -36,7 +36,7 @@ pub fn table_over(
 ) -> Result<Answer, Memory>
     requires { 0 < length cells.now.cells }
     ensures { IfOk result (λ answer.
-        answer ≡ table_over form cells.now grids.now names.now job.now) }
+        answer ≡ table_over form cells.now grids.now.families names.now job.now) }
 {
     match other_input(names, job) {
         Some(which) => rejection(alloc, &Reason::OtherInput { which }),
@@ -54,7 +54,7 @@ fn design_answer(
 ) -> Result<Answer, Memory>
     requires { 0 < length cells.now.cells }
     ensures { IfOk result (λ answer. answer
-        ≡ design_answer form cells.now d.now (admitted_family grids.now d.now)) }
+        ≡ design_answer form cells.now d.now (admitted_family grids.now.families d.now)) }
 {
     if !admits(grids, d) {
         return rejection(alloc, &Reason::NotAdmissible);

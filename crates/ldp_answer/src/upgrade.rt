@@ -25,7 +25,7 @@ pub fn upgrade_over(
     requires names { AreNames names.now }
     requires job { IsJob job }
     ensures { IfOk result (λ answer.
-        answer ≡ upgrade_over cells.now grids.now names.now job) }
+        answer ≡ upgrade_over cells.now grids.now.families names.now job) }
 {
     match verdict_over(alloc, cells, grids, names, &job)? {
         Verdict::Accepted => Ok(Answer {

@@ -14,7 +14,7 @@ use std::alloc::Global;
 /// What `wkt` prints: the line of the coordinate reference system of a job's design. The hash is
 /// that of the file of the grids.
 pub fn wkt_over(alloc: Global, grids: &Grids, hash: &[u8; 32], job: &Job) -> Result<Answer, Memory>
-    ensures { IfOk result (λ answer. answer ≡ wkt_over grids.now hash.now job.now) }
+    ensures { IfOk result (λ answer. answer ≡ wkt_over grids.now.families hash.now job.now) }
 {
     match other_grids(hash, job) {
         Some(which) => rejection(alloc, &Reason::OtherInput { which }),
@@ -38,7 +38,7 @@ fn other_grids(hash: &[u8; 32], job: &Job) -> Option<Role>
 
 fn line_answer(alloc: Global, grids: &Grids, d: &Design) -> Result<Answer, Memory>
     ensures { IfOk result (λ answer.
-        answer ≡ line_answer d.now (admitted_family grids.now d.now)) }
+        answer ≡ line_answer d.now (admitted_family grids.now.families d.now)) }
 {
     if !admits(grids, d) {
         return rejection(alloc, &Reason::NotAdmissible);

@@ -3,7 +3,6 @@ mod Families
 mod Kepts
 mod Loops
 mod Runs
-mod Stays
 mod Sweeps
 mod Tallies
 mod Told

@@ -10,8 +10,8 @@ use Rattle.std.specs.Option.{is_none}
 use Rattle.std.specs.List.{position_or_len}
 use Rattle.ldp_problem.specs.Costs.{at_cells}
 use Rattle.ldp_problem.specs.declared.cost.Cost.TheVariants as costs
-use Rattle.ldp_bound.specs.declared.tally.Tally.{Tally}
-use Rattle.ldp_bound.specs.Tally.{tally_of, counted, cost_over}
+use Rattle.ldp_bound.specs.declared.summary.Summary.{Summary}
+use Rattle.ldp_bound.specs.Summary.{tally_of, counted, cost_over}
 use Rattle.ldp_bound.proofs.Tallies.{with_lesser}
 
 length-at_cells : {A : Type 0} (f : ℕ → A) (n : ℕ) → length (at_cells f n) ≡ n
@@ -37,7 +37,7 @@ cell_at f (suc n) cell d h = by_place (cases_lt cell n) (cell_at f n cell d)
         get_or_push (at_cells f n) (f n) d cell (length-at_cells f n ∙ sym last) ∙ ap f (sym last)
 
 -- the value at one more cell
-pub told_more : (f : ℕ → ℕ) (tolerance : Option ℕ) (cell value : ℕ) (so_far next : Tally)
+pub told_more : (f : ℕ → ℕ) (tolerance : Option ℕ) (cell value : ℕ) (so_far next : Summary)
     → ((values : List ℕ) → length values ≡ cell → so_far ≡ tally_of tolerance values
     → next ≡ tally_of tolerance (values ++ value ∷ []))
     → so_far ≡ tally_of tolerance (at_cells f cell) → value ≡ f cell
@@ -56,7 +56,7 @@ none_counted : (tolerance : Option ℕ) → counted tolerance 0 ≡ 0
 none_counted None = refl
 none_counted (Some t) = let test : nat_lt t 0 ≡ false = grind (arith, nat_tests) in rw test refl
 
-pub all_zero : (f : ℕ → ℕ) (tolerance : Option ℕ) (none : Tally) (n : ℕ)
+pub all_zero : (f : ℕ → ℕ) (tolerance : Option ℕ) (none : Summary) (n : ℕ)
     → none ≡ tally_of tolerance [] → none.value ≡ 0
     → ((cell : ℕ) → f cell ≡ 0) → none ≡ tally_of tolerance (at_cells f n)
 all_zero f tolerance none zero is value zeros = is
@@ -96,7 +96,7 @@ all_defined f count =
     rw (first, test) refl
 
 -- none is undefined
-pub usable_over : (tolerance : Option ℕ) (sizes : ℕ → Option ℕ) (count : ℕ) (told : Tally)
+pub usable_over : (tolerance : Option ℕ) (sizes : ℕ → Option ℕ) (count : ℕ) (told : Summary)
     → ((k : ℕ) → k < count → is_none (sizes k) ≡ false)
     → told ≡ tally_of tolerance (at_cells (told_sizes sizes) count)
     → costs.Is told.over (pos told.value) told.cell ≡ cost_over tolerance sizes count
@@ -110,4 +110,4 @@ usable_over tolerance sizes count told defined is =
     let none : position is_none (at_cells sizes count) ≡ None =
     (let test : nat_lt count (length (at_cells sizes count)) ≡ false = grind (arith, nat_tests) in
     rw (first, test) refl) in
-    rw none (ap (λ (t : Tally). costs.Is t.over (pos t.value) t.cell) is)
+    rw none (ap (λ (t : Summary). costs.Is t.over (pos t.value) t.cell) is)

@@ -20,7 +20,8 @@ use Rattle.ldp_design.specs.declared.design_box.DesignBox.{DesignBox}
 use Rattle.ldp_design.specs.declared.inputs.Inputs4.{Inputs4}
 use Rattle.ldp_design.specs.Families.{AreGrids, family_of}
 use Rattle.ldp_design.specs.Boxes.{LiesIn as LiesInFamily, IsIn, IsSingle, first_of, last_of}
-use Rattle.ldp_design.specs.Inputs.{inputs_at, design_inputs, box_inputs, LieBetween}
+use Rattle.ldp_design.specs.Inputs.{inputs_at, design_inputs, box_inputs}
+use Rattle.ldp_design.specs.Laws.{LieBetween}
 use Rattle.ldp_design.proofs.Between.{inputs_lie_between}
 use Rattle.ldp_problem.specs.Problem.{IsSound}
 use Rattle.ldp_bound.specs.Kinds.{family_lists}

@@ -16,21 +16,21 @@ use Rattle.ldp_distortion.specs.Inputs.{numbers}
 use Rattle.ldp_problem.specs.Costs.{at_cells, first_largest, tally, cost_answer}
 use Rattle.ldp_problem.specs.declared.cost.Cost.{Cost}
 use Rattle.ldp_problem.specs.declared.cost.Cost.TheVariants as costs
-use Rattle.ldp_sweep.specs.declared.node.Node.{Node}
+use Rattle.ldp_sweep.specs.declared.stretch.Stretch.{Stretch}
 use Rattle.ldp_sweep.specs.declared.peak.Peak.{Peak}
-use Rattle.ldp_sweep.specs.declared.span.Span.{Span}
+use Rattle.ldp_sweep.specs.declared.enclosure.Enclosure.{Enclosure}
 use Rattle.ldp_sweep.specs.Cut.{IsWithin}
 use Rattle.ldp_sweep.specs.Tally.{over_of, peak_of, undefined_of}
 use Rattle.ldp_stretch.specs.Spans.{IsSpanned, SpansAt}
 use Rattle.ldp_stretch.specs.Twins.{number_twins, StandForRanges}
-use Rattle.ldp_bound.specs.declared.tally.Tally.{Tally}
+use Rattle.ldp_bound.specs.declared.summary.Summary.{Summary}
 use Rattle.ldp_design.specs.declared.family.Family.{Family}
 use Rattle.ldp_design.specs.declared.design.Design.{Design}
 use Rattle.ldp_design.specs.declared.design_box.DesignBox.{DesignBox}
 use Rattle.ldp_bound.specs.declared.kinds.PreparedKinds.{PreparedKinds}
 use Rattle.ldp_bound.specs.Kept.{low_from, size_from, kept_lower, kept_delta, TellsBox, TellsDesign}
 use Rattle.ldp_bound.specs.Plain.{least_size}
-use Rattle.ldp_bound.specs.Tally.{tally_of, cost_over}
+use Rattle.ldp_bound.specs.Summary.{tally_of, cost_over}
 use Rattle.ldp_bound.proofs.Carriers.{at_mapped, twice_maps}
 use Rattle.ldp_bound.proofs.Loops.{all_defined}
 use Rattle.ldp_bound.proofs.Tallies.{same_tally}
@@ -42,7 +42,7 @@ box_defined f count cell e = none-some cell (sym (all_defined f count) ∙ e)
 
 pub box_told : (f : ℕ → ℕ) (tolerance : Option ℕ) (count over : ℕ) (peak : Peak)
     → over ≡ over_of (λ k. Some (f k)) tolerance count → peak ≡ peak_of (λ k. Some (f k)) count
-    → ◌≡◌ {A = Tally} (record { over = over; value = peak.value; cell = peak.cell })
+    → ◌≡◌ {A = Summary} (record { over = over; value = peak.value; cell = peak.cell })
     (tally_of tolerance (at_cells f count))
 unfolding tally_of
 box_told f tolerance count over peak counts top =
@@ -76,8 +76,8 @@ design_undefined sizes tolerance count cell is =
 
 -- the values at the cells of a stretch lie within its span
 pub box_within : (p : PreparedCells) (design : List (ℤ × ℤ)) (twins : List TwinPair)
-    (nodes : List Node) (at : ℕ) (span : Span) → StandForRanges design twins
-    → SpansAt p twins nodes at span → (node : Node) → slice_get nodes at ≡ Some node
+    (nodes : List Stretch) (at : ℕ) (span : Enclosure) → StandForRanges design twins
+    → SpansAt p twins nodes at span → (node : Stretch) → slice_get nodes at ≡ Some node
     → IsWithin (λ cell. Some (low_from p design cell)) node.from node.to span
 box_within p design twins nodes at span held spans node found = record {
   defined = λ cell from to. search rules;
@@ -96,12 +96,12 @@ numbers_stand [] = tt
 numbers_stand (x ∷ design) = (own (twice x.n) (≤ℤ_refl x.n), numbers_stand design)
 
 -- the absolute value of a number whose range is spanned
-record IsSized (found : Option ℤ) (span : Span) : Type 0 where
+record IsSized (found : Option ℤ) (span : Enclosure) : Type 0 where
   defined : IsSome (option_map unsigned_abs found)
   low : span.low ≤ unwrap_or (option_map unsigned_abs found) 0
   high : unwrap_or (option_map unsigned_abs found) 0 ≤ span.high
 
-sized : (found : Option ℤ) (span : Span) → IsSpanned (option_map twice found) span
+sized : (found : Option ℤ) (span : Enclosure) → IsSpanned (option_map twice found) span
     → IsSized found span
 sized None span spanned = absurd (none-some spanned.range spanned.is)
 sized (Some n) span spanned =
@@ -116,8 +116,8 @@ sized (Some n) span spanned =
     }
 
 pub design_within : (p : PreparedCells) (design : List Fix) (twins : List TwinPair)
-    (nodes : List Node) (at : ℕ) (span : Span) → twins ≡ number_twins design
-    → SpansAt p twins nodes at span → (node : Node) → slice_get nodes at ≡ Some node
+    (nodes : List Stretch) (at : ℕ) (span : Enclosure) → twins ≡ number_twins design
+    → SpansAt p twins nodes at span → (node : Stretch) → slice_get nodes at ≡ Some node
     → IsWithin (size_from p (numbers design)) node.from node.to span
 design_within p design twins nodes at span twin spans node found = record {
   defined = λ cell from to. (at_one cell from to).defined;
@@ -153,7 +153,7 @@ same_sizes families kinds d p q inputs tells same =
     (sym same)
 
 pub swept_lows : (f : ℕ → ℕ) (p cells : PreparedCells) (design front : List (ℤ × ℤ)) (n count : ℕ)
-    (tolerance : Option ℕ) (told : Tally)
+    (tolerance : Option ℕ) (told : Summary)
     → told ≡ tally_of tolerance (at_cells (low_from cells design) n)
     → cells ≡ p → n ≡ count → design ≡ front → f ≡ low_from p front
     → told ≡ tally_of tolerance (at_cells f count)

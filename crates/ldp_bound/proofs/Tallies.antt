@@ -7,8 +7,8 @@ use Rattle.std.proofs.lemmas.List.Folds.{position_or_len_push}
 use Rattle.std.specs.Prelude.{Option, None, Some, nat_lt, ◌==◌, count_by}
 use Rattle.std.specs.List.{position_or_len}
 use Rattle.ldp_problem.specs.Costs.{largest, first_largest, beyond}
-use Rattle.ldp_bound.specs.declared.tally.Tally.{Tally}
-use Rattle.ldp_bound.specs.Tally.{tally_of, counted}
+use Rattle.ldp_bound.specs.declared.summary.Summary.{Summary}
+use Rattle.ldp_bound.specs.Summary.{tally_of, counted}
 
 largest_push : (xs : List ℕ) (x : ℕ) → largest (xs ++ x ∷ []) ≡ max (largest xs) x
 largest_push [] x = omega arith
@@ -75,38 +75,38 @@ first_stays (y ∷ ys) x h =
     ∙ rw inside refl
 
 pub same_tally : (over more value most cell first : ℕ) → over ≡ more → value ≡ most → cell ≡ first
-    → ◌≡◌ {A = Tally} (record { over = over; value = value; cell = cell })
+    → ◌≡◌ {A = Summary} (record { over = over; value = value; cell = cell })
     (record { over = more; value = most; cell = first })
 same_tally over more value most cell first h k l = cc
 
 -- with one more value, greater than the largest or not
-pub with_greater : (tolerance : Option ℕ) (values : List ℕ) (value cell over : ℕ) (tally : Tally)
+pub with_greater : (tolerance : Option ℕ) (values : List ℕ) (value cell over : ℕ) (tally : Summary)
     → over ≡ tally.over + counted tolerance value → tally.value < value → length values ≡ cell
     → tally ≡ tally_of tolerance values
-    → ◌≡◌ {A = Tally} (record { over = over; value = value; cell = cell })
+    → ◌≡◌ {A = Summary} (record { over = over; value = value; cell = cell })
     (tally_of tolerance (values ++ value ∷ []))
 unfolding tally_of
 with_greater tolerance values value cell over tally counts greater count is =
-    let most : largest values < value = omega (arith, ap (λ (t : Tally). t.value) is) in
+    let most : largest values < value = omega (arith, ap (λ (t : Summary). t.value) is) in
     let overs : over ≡ beyond tolerance (values ++ value ∷ []) =
-    counts ∙ ap (λ (t : Tally). t.over + counted tolerance value) is
+    counts ∙ ap (λ (t : Summary). t.over + counted tolerance value) is
     ∙ sym (beyond_push tolerance values value) in
     let tops : value ≡ largest (values ++ value ∷ []) = omega (arith, largest_push values value) in
     same_tally over _ value _ cell _ overs tops (sym (first_rises values value most ∙ count))
 
-pub with_lesser : (tolerance : Option ℕ) (values : List ℕ) (value over : ℕ) (tally : Tally)
+pub with_lesser : (tolerance : Option ℕ) (values : List ℕ) (value over : ℕ) (tally : Summary)
     → over ≡ tally.over + counted tolerance value → value ≤ tally.value
     → tally ≡ tally_of tolerance values
-    → ◌≡◌ {A = Tally} (record { over = over; value = tally.value; cell = tally.cell })
+    → ◌≡◌ {A = Summary} (record { over = over; value = tally.value; cell = tally.cell })
     (tally_of tolerance (values ++ value ∷ []))
 unfolding tally_of
 with_lesser tolerance values value over tally counts lesser is =
-    let top : tally.value ≡ largest values = ap (λ (t : Tally). t.value) is in
+    let top : tally.value ≡ largest values = ap (λ (t : Summary). t.value) is in
     let most : value ≤ largest values = omega arith in
     let overs : over ≡ beyond tolerance (values ++ value ∷ []) =
-    counts ∙ ap (λ (t : Tally). t.over + counted tolerance value) is
+    counts ∙ ap (λ (t : Summary). t.over + counted tolerance value) is
     ∙ sym (beyond_push tolerance values value) in
     let tops : tally.value ≡ largest (values ++ value ∷ []) =
     omega (arith, largest_push values value) in
     same_tally over _ tally.value _ tally.cell _ overs tops
-    (ap (λ (t : Tally). t.cell) is ∙ sym (first_stays values value most))
+    (ap (λ (t : Summary). t.cell) is ∙ sym (first_stays values value most))

@@ -1,47 +1,21 @@
 -- What the calls answer, by what is told of the values at the cells.
 use Rattle.std.proofs.Common.{◌≡◌, ◌≤◌, ℕ, Bool, true, false, List, arith, refl, sym, ap, ◌∙◌}
 use Rattle.std.specs.Prelude.{Option, None, Some, pos, if◌then◌else◌}
-use Rattle.ldp_design.specs.declared.axis.AxisName.{AxisName}
-use Rattle.ldp_design.specs.declared.axis.AxisName.TheVariants.{Lat, Lon, Azimuth, Scale}
-use Rattle.ldp_design.specs.declared.family.Family.{Family}
 use Rattle.ldp_design.specs.declared.design.Design.{Design}
 use Rattle.ldp_design.specs.declared.design_box.DesignBox.{DesignBox}
-use Rattle.ldp_design.specs.Boxes.{LiesIn, IsIn, IsSingle, is_single, first_of, span_of}
-use Rattle.ldp_design.specs.Designs.{IsAdmitted, index_of}
-use Rattle.ldp_design.proofs.Wholes.{boxes_are_admitted}
+use Rattle.ldp_design.specs.Boxes.{LiesIn, IsSingle, is_single, first_of}
 use Rattle.ldp_problem.specs.declared.pair.Pair.{Pair}
 use Rattle.ldp_problem.specs.declared.bound.Bound.TheVariants as bounds
 use Rattle.ldp_problem.specs.Problem.{Problem, IsSound}
 use Rattle.ldp_problem.specs.Costs.{at_cells, first_undefined, cost, worst_cell, bound, bound_cell}
 use Rattle.ldp_problem.specs.Costs.{cost_answer, bound_answer, cost_of, bound_of}
 use Rattle.ldp_problem.proofs.Facts.{single_exact}
-use Rattle.ldp_bound.specs.declared.tally.Tally.{Tally}
-use Rattle.ldp_bound.specs.Tally.{tally_of, cost_over, single_bound}
+use Rattle.ldp_bound.specs.declared.summary.Summary.{Summary}
+use Rattle.ldp_bound.specs.Summary.{tally_of, cost_over, single_bound}
 
 pub cost_told : (p : Problem) (d : Design) → cost_over p.tolerance (p.delta d) p.cells ≡ cost_of p d
 unfolding cost_over cost_of
 cost_told p d = refl
-
--- the design of a single is admissible
-first_in : (families : List Family) (b : DesignBox) → LiesIn families b → IsIn (first_of b) b
-first_in families b lies = record { family = refl; low = low_of; high = high_of }
-  where
-    low_of : (axis : AxisName) → (span_of axis b).lo ≤ index_of axis (first_of b)
-    low_of Lat = omega arith
-    low_of Lon = omega arith
-    low_of Azimuth = omega arith
-    low_of Scale = omega arith
-
-    high_of : (axis : AxisName) → index_of axis (first_of b) ≤ (span_of axis b).hi
-    high_of Lat = lies.within.some Lat
-    high_of Lon = lies.within.some Lon
-    high_of Azimuth = lies.within.some Azimuth
-    high_of Scale = lies.within.some Scale
-
-pub first_admitted : (families : List Family) (b : DesignBox) → LiesIn families b
-    → IsAdmitted families (first_of b)
-first_admitted families b lies =
-    boxes_are_admitted families b (first_of b) lies (first_in families b lies)
 
 -- the bound of a single is the cost of its design
 as_bound : (undefined : Option ℕ) (pair : Pair) (cell : ℕ)
@@ -63,11 +37,11 @@ single_told p b sound lies test single =
     (bound p b) (bound_cell p b)) (sym test)
 
 -- the bound of any other box
-pub low_told : (p : Problem) (b : DesignBox) (told : Tally) → is_single b ≡ false
+pub low_told : (p : Problem) (b : DesignBox) (told : Summary) → is_single b ≡ false
     → told ≡ tally_of p.tolerance (at_cells (p.lower b) p.cells)
     → bounds.Low told.over (pos told.value) told.cell ≡ bound_of p b
 unfolding bound_of tally_of
 low_told p b told test is =
-    ap (λ (t : Tally). bounds.Low t.over (pos t.value) t.cell) is
+    ap (λ (t : Summary). bounds.Low t.over (pos t.value) t.cell) is
     ∙ ap (λ (t : Bool). bound_answer (if t then first_undefined p (first_of b) else None)
     (bound p b) (bound_cell p b)) (sym test)

@@ -17,6 +17,7 @@ lists_of Lambert south = lambert
 lists_of Lambert2 south = lambert_two
 lists_of Hotine south = hotine south
 
+-- the kind whose lists depend on the hemisphere
 abbrev pub is_oblique : Kind → Bool
 is_oblique Tm = false
 is_oblique Lambert = false

@@ -1,8 +1,7 @@
 pub mod DesignRuns
 pub mod Kept
-pub mod KindCells
 pub mod Kinds
 pub mod Laws
 pub mod Plain
 pub mod Sweeps
-pub mod Tally
+pub mod Summary

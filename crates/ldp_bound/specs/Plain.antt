@@ -19,19 +19,21 @@ use Rattle.ldp_problem.specs.declared.cost.Cost.TheVariants as costs
 use Rattle.ldp_problem.specs.Problem.{Problem}
 use Rattle.ldp_bound.specs.Kinds.{family_lists}
 
--- the inputs of the design list for a design, as numbers, and for a box, as pairs of those at its
--- low and at its high indices
+-- the inputs of the design list for a design, in the list's order
 abbrev pub number_inputs : Inputs4 → List ℤ
 number_inputs at = at.lat ∷ at.lon ∷ at.azimuth ∷ at.scale ∷ []
 
+-- the inputs of the design list for a box, from those at its low and at its high indices
 abbrev pub pair_inputs : Inputs4 → Inputs4 → List (ℤ × ℤ)
 pair_inputs low high =
     (low.lat, high.lat) ∷ (low.lon, high.lon) ∷ (low.azimuth, high.azimuth)
     ∷ (low.scale, high.scale) ∷ []
 
+-- the inputs of the design list for a design of a family: radians in 10^-15, and the scale factor
 abbrev pub design_numbers : Design → Family → List ℤ
 design_numbers d f = number_inputs (inputs_at f d)
 
+-- the inputs of the design list for a box of a family, each as its least and its greatest value
 abbrev pub box_pairs : DesignBox → Family → List (ℤ × ℤ)
 box_pairs b f = pair_inputs (inputs_at f (first_of b)) (inputs_at f (last_of b))
 
@@ -53,24 +55,25 @@ delta_at families cells d i =
     option_map unsigned_abs
     (distortion_at number_ops families cells d.family (design_numbers d) i)
 
--- the range of the distortion of a box at a cell, and the least absolute value in it: 0 where it is
--- undefined
+-- the range of the distortion of a box at a cell; None if it is undefined
 abbrev pub range_at : List Family → List Cell → DesignBox → ℕ → Option (ℤ × ℤ)
 range_at families cells b i = distortion_at range_ops families cells b.family (box_pairs b) i
 
+-- the least absolute value of the numbers of a range; 0 if the range is undefined
 abbrev pub least_size : Option (ℤ × ℤ) → ℕ
 least_size None = 0
 least_size (Some range) = unsigned_abs (pair_low_abs range)
 
+-- the least absolute value in the range of the distortion of a box at a cell
 abbrev pub lower_at : List Family → List Cell → DesignBox → ℕ → ℕ
 lower_at families cells b i = least_size (range_at families cells b i)
 
--- from 0 to 10^15
+-- a tolerance in units of 10^-15: from 0 to a million parts per million
 pub record IsTolerance (tolerance : ℤ) : Type 0 where
   pub low : pos 0 ≤ℤ tolerance
   pub high : tolerance ≤ℤ pos 1_000_000_000_000_000
 
--- the problem over these families and cells
+-- the problem over these families and cells; the tolerance is in units of 10^-15
 abbrev pub plain_problem : List Family → List Cell → Option ℕ → Problem
 plain_problem families cells tolerance = record {
   families = families;

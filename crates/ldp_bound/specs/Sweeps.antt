@@ -2,11 +2,11 @@
 -- speak of it.
 use Rattle.std.specs.Prelude.{◌≡◌, ℕ, ℤ, List, length, take, Some}
 use Rattle.ldp_num.specs.Number.{limit}
-use Rattle.ldp_num.specs.Steps.{most_steps}
+use Rattle.ldp_num.specs.Steps.{most_steps, most_inputs}
 use Rattle.ldp_num.specs.declared.fix.Fix.{Fix}
 use Rattle.ldp_distortion.specs.Prepared.{PreparedCells}
 use Rattle.ldp_distortion.specs.Inputs.{numbers}
-use Rattle.ldp_sweep.specs.declared.node.Node.{Node}
+use Rattle.ldp_sweep.specs.declared.stretch.Stretch.{Stretch}
 use Rattle.ldp_sweep.specs.Cut.{Cut}
 use Rattle.ldp_bound.specs.Kept.{IsReady, low_from, size_from}
 
@@ -14,10 +14,10 @@ use Rattle.ldp_bound.specs.Kept.{IsReady, low_from, size_from}
 pub record Swept (A : Type 0) : Type 0 where
   pub cells : PreparedCells
   pub count : ℕ
-  pub nodes : List Node
+  pub nodes : List Stretch
   pub design : List A
 
--- the least absolute distortion of the box at each cell
+-- the least absolute value in the range of the box at each cell
 abbrev pub box_cut : Swept (ℤ × ℤ) → Cut
 box_cut s = record {
   cells = s.count;
@@ -43,4 +43,4 @@ front p inputs = take (length p.lists.design.outs) inputs
 pub record IsSweep (p : PreparedCells) (count room places : ℕ) : Type 0 where
   pub ready : IsReady count p
   pub whole_room : room ≡ most_steps
-  pub whole_places : places ≡ 16
+  pub whole_places : places ≡ most_inputs

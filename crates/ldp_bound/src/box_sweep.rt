@@ -1,11 +1,10 @@
 ghost use Rattle.std.specs.Prelude.{◌≡◌, ◌≤◌, length};
 
-use crate::inputs::MOST_INPUTS;
 use crate::lows::low_at;
-use ldp_num::Bench;
+use ldp_num::{Bench, MOST_INPUTS};
 use ldp_range::{Range, Twin};
 use ldp_stretch::{Stretched, TwinSpans};
-use ldp_sweep::{Node, Span, Sweep};
+use ldp_sweep::{Enclosure, Stretch, Sweep};
 use std::marker::Model;
 
 /// The least absolute distortion of a box at the cells and over their stretches.
@@ -86,7 +85,7 @@ impl<'a> Sweep for BoxSweep<'a> {
         self.count
     }
 
-    fn nodes(&self) -> &[Node] {
+    fn nodes(&self) -> &[Stretch] {
         self.spans.nodes()
     }
 
@@ -95,7 +94,7 @@ impl<'a> Sweep for BoxSweep<'a> {
         Some(low_at(prepared, &mut self.bench, &mut self.inputs, cell))
     }
 
-    fn span(&mut self, at: usize) -> Option<Span> {
+    fn span(&mut self, at: usize) -> Option<Enclosure> {
         self.spans.span(at)
     }
 }

@@ -5,9 +5,9 @@ use crate::Memory;
 use crate::benches::Benches;
 use crate::kept::Kept;
 use crate::lows::{low, lows};
-use crate::single::{bound_of_single, first_of};
+use crate::single::bound_of_single;
 use crate::sizes::{cost, size};
-use crate::tally::signed;
+use crate::summary::signed;
 use crate::tolerance::{signed_units, units};
 use ldp_cells::Cells;
 use ldp_design::{Design, DesignBox, Grids, is_single};
@@ -37,7 +37,7 @@ impl CellByCell {
         requires cells { 0 < length cells.now.cells }
         requires tolerance { IfSome tolerance IsTolerance }
         ensures problem { IfOk result (λ bounder. ⟦<CellByCell as Bounds>⟧.problem bounder
-            ≡ plain_problem grids.now cells.now.cells (option_map unsigned_abs tolerance)) }
+            ≡ plain_problem grids.now.families cells.now.cells (option_map unsigned_abs tolerance)) }
         ensures asked { IfOk result (λ bounder. ⟦<CellByCell as Bounds>⟧.times bounder ≡ 0) }
     {
         let kept = Kept::new(alloc, grids, cells, units(tolerance))?;
@@ -57,7 +57,7 @@ impl Bounds for CellByCell {
     ghost use Rattle.ldp_bound.specs.Kept.{kept_problem};
 
     ghost problem = { λ bounder. kept_problem
-        bounder.kept.grids bounder.kept.kinds bounder.kept.count bounder.kept.tolerance };
+        bounder.kept.grids.families bounder.kept.kinds bounder.kept.count bounder.kept.tolerance };
 
     ghost times = { λ bounder. bounder.asked };
 
@@ -72,7 +72,7 @@ impl Bounds for CellByCell {
     fn bound(&mut self, b: &DesignBox) -> Bound {
         self.asked = self.asked.saturating_add(1);
         if is_single(b) {
-            let cost = cost(&self.kept, &mut self.benches, &first_of(b));
+            let cost = cost(&self.kept, &mut self.benches, &b.first());
             return bound_of_single(cost);
         }
         lows(&self.kept, &mut self.benches, b).bound()

@@ -1,11 +1,10 @@
 ghost use Rattle.std.specs.Prelude.{◌≡◌, ◌≤◌, length};
 
-use crate::inputs::MOST_INPUTS;
 use crate::sizes::size_at;
-use ldp_num::{Bench, Fix};
+use ldp_num::{Bench, Fix, MOST_INPUTS};
 use ldp_range::Twin;
 use ldp_stretch::{Stretched, TwinSpans};
-use ldp_sweep::{Node, Span, Sweep};
+use ldp_sweep::{Enclosure, Stretch, Sweep};
 use std::marker::Model;
 
 /// The absolute distortion of a design at the cells and over their stretches.
@@ -87,7 +86,7 @@ impl<'a> Sweep for DesignSweep<'a> {
         self.count
     }
 
-    fn nodes(&self) -> &[Node] {
+    fn nodes(&self) -> &[Stretch] {
         self.spans.nodes()
     }
 
@@ -96,7 +95,7 @@ impl<'a> Sweep for DesignSweep<'a> {
         size_at(prepared, &mut self.bench, &mut self.inputs, cell)
     }
 
-    fn span(&mut self, at: usize) -> Option<Span> {
+    fn span(&mut self, at: usize) -> Option<Enclosure> {
         self.spans.span(at)
     }
 }

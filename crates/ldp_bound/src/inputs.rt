@@ -5,9 +5,8 @@ ghost use Rattle.ldp_num.specs.StepList.{value, value_in};
 ghost use Rattle.ldp_num.specs.Written.{written, range_ops};
 ghost use Rattle.ldp_distortion.specs.Inputs.{numbers};
 ghost use Rattle.ldp_distortion.specs.Prepared.{HasRoom, joined_at};
-ghost use Rattle.ldp_design.specs.Inputs.{AreNumbers, AreOrdered};
+ghost use Rattle.ldp_design.specs.Laws.{AreNumbers, AreOrdered};
 ghost use Rattle.ldp_bound.specs.Plain.{number_inputs, pair_inputs};
-ghost use Rattle.ldp_bound.specs.DesignRuns.{inputs_in};
 
 use crate::design_runs::DesignRuns;
 use crate::kind_cells::KindCells;
@@ -15,9 +14,6 @@ use ldp_design::Inputs4;
 use ldp_distortion::Prepared;
 use ldp_num::{Bench, Fix, Num};
 use ldp_range::{Range, hull, sharp};
-
-/// The most inputs of a list.
-pub(crate) const MOST_INPUTS: usize = 16;
 
 /// Runs the design list of a design into the first of the joint list's inputs: true exactly where
 /// it has a value.
@@ -34,7 +30,7 @@ pub(crate) fn put_design(
         then Some (numbers (take (length cells.now.lists.design.outs) inputs.new))
         else None) }
 {
-    put_results(cells, runs, at, at, &number_inputs(at), inputs)
+    put_results(cells, runs, &number_inputs(at), inputs)
 }
 
 /// Runs the design list of a box, whose inputs lie between two, into the first of the joint list's
@@ -55,19 +51,16 @@ pub(crate) fn put_box(
         then Some (take (length cells.now.lists.design.outs) inputs.new)
         else None) }
 {
-    put_results(cells, runs, low, high, &pair_inputs(low, high), inputs)
+    put_results(cells, runs, &pair_inputs(low, high), inputs)
 }
 
 /// The same in any carrier.
 fn put_results<N: Num>(
     cells: &KindCells,
     runs: &mut DesignRuns<N>,
-    low: &Inputs4,
-    high: &Inputs4,
     design: &[N; 4],
     inputs: &mut [N],
 ) -> bool
-    requires design { map N.meaning design.now ≡ inputs_in N.CARRIER low.now high.now }
     requires inputs { cells.now.lists.joint.inputs ≤ length inputs.old }
     ensures value { value_in (written N.CARRIER) cells.now.lists.design
         (map N.meaning design.now)
@@ -77,7 +70,8 @@ fn put_results<N: Num>(
 {
     let list = &cells.prepared().lists().design;
     let (first, _) = inputs.split_at_mut(list.outs().len());
-    runs.run_into(cells, low, high, design, first)
+    let (kind, south) = cells.kind();
+    runs.run_into(kind, south, design, first)
 }
 
 /// The distortion at a cell in any carrier, where the first of the joint list's inputs are the

@@ -20,7 +20,7 @@ pub struct Kept {
     pub count: u32,
     pub tolerance: Option<u64>,
     ghost full: { HasCells count kinds },
-    ghost sound: { IsSound (kept_problem grids kinds count tolerance) },
+    ghost sound: { IsSound (kept_problem grids.families kinds count tolerance) },
 }
 
 impl Kept {
@@ -32,8 +32,8 @@ impl Kept {
         tolerance: Option<u64>,
     ) -> Result<Kept, Memory>
         requires { 0 < length cells.now.cells }
-        ensures grids { IfOk result (λ kept. kept.grids ≡ grids.now) }
-        ensures kinds { IfOk result (λ kept. kept.kinds ≡ kinds_of grids.now cells.now.cells) }
+        ensures grids { IfOk result (λ kept. kept.grids.families ≡ grids.now.families) }
+        ensures kinds { IfOk result (λ kept. kept.kinds ≡ kinds_of grids.now.families cells.now.cells) }
         ensures count { IfOk result (λ kept. kept.count ≡ length cells.now.cells) }
         ensures tolerance { IfOk result (λ kept. kept.tolerance ≡ tolerance) }
     {
@@ -51,13 +51,13 @@ impl Kept {
     /// The cells prepared for the lists of the family with this number, cut into stretches.
     pub fn set(&self, number: u16) -> Option<&KindCells>
         requires some { 1 ≤ number }
-        requires known { number ≤ length self.now.grids }
+        requires known { number ≤ length self.now.grids.families }
         ensures set { option_map (λ p. p.now) result
-            ≡ option_and_then (family_set self.now.kinds) (family_of self.now.grids number) }
+            ≡ option_and_then (family_set self.now.kinds) (family_of self.now.grids.families number) }
         ensures ready { IfSome result (λ p. IsReady self.now.count p.now) }
     {
         let cells = self.kinds.of(self.grids.family(number))?;
-        // Called for its clause: no list has more than 16 inputs.
+        // Called for its clause: a list has no more inputs than the most.
         let _inputs = cells.prepared().lists().joint.inputs();
         Some(cells)
     }
@@ -65,8 +65,8 @@ impl Kept {
 
 /// The same families once more.
 fn copied(alloc: Global, grids: &Grids) -> Result<Grids, Memory>
-    ensures same { IfOk result (λ copy. copy ≡ grids.now) }
-    ensures valid { AreGrids grids.now }
+    ensures same { IfOk result (λ copy. copy.families ≡ grids.now.families) }
+    ensures valid { AreGrids grids.now.families }
 {
     let mut copy = Grids::new(alloc);
     for index in 0..grids.families() {

@@ -1,5 +1,4 @@
 ghost use Rattle.std.specs.Prelude.{◌≡◌, ◌<◌, length, IfOk};
-ghost use Rattle.ldp_num.specs.Again.{IsAgain};
 ghost use Rattle.ldp_distortion.specs.Prepared.{prepared};
 ghost use Rattle.ldp_bound.specs.Kinds.{lists_of};
 
@@ -8,34 +7,29 @@ use crate::lists::lists_of;
 use ldp_cells::Cells;
 use ldp_design::Kind;
 use ldp_distortion::Prepared;
-use ldp_num::dependents;
 use ldp_stretch::Stretched;
 use std::alloc::Global;
 use std::marker::Model;
 
-/// How many inputs of a design list stand before the scale, which is its last.
-const BEFORE_SCALE: u16 = 3;
-
-/// The cells prepared for the lists of a kind and a hemisphere, cut into stretches, with the places
-/// of the steps of the design list that the scale bears on. Seen as the prepared cells.
+/// The cells prepared for the lists of a kind and a hemisphere, cut into stretches. Seen as the
+/// prepared cells.
 #[derive(Drop)]
 pub struct KindCells {
     kind: Kind,
     south: bool,
     stretched: Stretched,
-    of_scale: Vec<u16>,
 }
 
 impl Model for KindCells {
     ghost use Rattle.ldp_distortion.specs.Prepared.{PreparedCells};
-    ghost use Rattle.ldp_bound.specs.KindCells.{IsOfKind};
+    ghost use Rattle.std.specs.Prelude.{◌≡◌};
+    ghost use Rattle.ldp_bound.specs.Kinds.{lists_of};
 
     ghost Value = { PreparedCells };
 
     ghost view = { λ cells. cells.stretched };
 
-    ghost invariant = { λ cells.
-        IsOfKind cells.kind cells.south cells.stretched cells.of_scale.items };
+    ghost invariant = { λ cells. cells.stretched.lists ≡ lists_of cells.kind cells.south };
 }
 
 impl KindCells {
@@ -45,14 +39,12 @@ impl KindCells {
         ensures { IfOk result (λ made. made ≡ prepared (lists_of kind south) cells.now.cells) }
     {
         let lists = lists_of(alloc, kind, south)?;
-        let of_scale = dependents(alloc, lists.design.steps(), BEFORE_SCALE)?;
         let prepared = Prepared::new(alloc, lists, cells)?;
         let stretched = Stretched::new(alloc, prepared, cells.len())?;
         Ok(KindCells {
             kind,
             south,
             stretched,
-            of_scale,
         })
     }
 
@@ -63,22 +55,17 @@ impl KindCells {
         (self.kind, self.south)
     }
 
+    /// The prepared cells alone.
     pub fn prepared(&self) -> &Prepared
         ensures { result.now ≡ self.now }
     {
         self.stretched.prepared()
     }
 
+    /// The prepared cells with the stretches that they are cut into.
     pub fn stretched(&self) -> &Stretched
         ensures { result.now ≡ self.now }
     {
         &self.stretched
-    }
-
-    /// The places, in order, of the steps of the design list that the scale bears on.
-    pub fn of_scale(&self) -> &[u16]
-        ensures { IsAgain 3 self.now.lists.design.steps result.now }
-    {
-        &self.of_scale
     }
 }

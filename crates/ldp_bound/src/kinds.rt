@@ -25,7 +25,7 @@ impl PreparedKinds {
     /// Prepares the cells once for each kind.
     pub fn new(alloc: Global, grids: &Grids, cells: &Cells) -> Result<PreparedKinds, Memory>
         requires { 0 < length cells.now.cells }
-        ensures { IfOk result (λ kinds. kinds ≡ kinds_of grids.now cells.now.cells) }
+        ensures { IfOk result (λ kinds. kinds ≡ kinds_of grids.now.families cells.now.cells) }
     {
         Ok(PreparedKinds {
             tm: prepared_for(alloc, grids, cells, Kind::Tm, false)?,

@@ -19,7 +19,7 @@ mod plain;
 mod sets;
 mod single;
 mod sizes;
-mod tally;
+mod summary;
 mod tolerance;
 
 pub use cell_by_cell::CellByCell;

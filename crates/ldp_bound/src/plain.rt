@@ -6,9 +6,9 @@ use crate::benches::Benches;
 use crate::hints::Hints;
 use crate::kept::Kept;
 use crate::lows::{low, lows_by_stretches};
-use crate::single::{bound_of_single, first_of};
+use crate::single::bound_of_single;
 use crate::sizes::{cost_by_stretches, size};
-use crate::tally::signed;
+use crate::summary::signed;
 use crate::tolerance::{signed_units, units};
 use ldp_cells::Cells;
 use ldp_design::{Design, DesignBox, Grids, is_single};
@@ -42,7 +42,7 @@ impl Plain {
         requires cells { 0 < length cells.now.cells }
         requires tolerance { IfSome tolerance IsTolerance }
         ensures problem { IfOk result (λ plain. ⟦<Plain as Bounds>⟧.problem plain
-            ≡ plain_problem grids.now cells.now.cells (option_map unsigned_abs tolerance)) }
+            ≡ plain_problem grids.now.families cells.now.cells (option_map unsigned_abs tolerance)) }
         ensures asked { IfOk result (λ plain. ⟦<Plain as Bounds>⟧.times plain ≡ 0) }
     {
         let kept = Kept::new(alloc, grids, cells, units(tolerance))?;
@@ -63,7 +63,7 @@ impl Bounds for Plain {
     ghost use Rattle.ldp_bound.specs.Kept.{kept_problem};
 
     ghost problem = { λ plain. kept_problem
-        plain.kept.grids plain.kept.kinds plain.kept.count plain.kept.tolerance };
+        plain.kept.grids.families plain.kept.kinds plain.kept.count plain.kept.tolerance };
 
     ghost times = { λ plain. plain.asked };
 
@@ -85,7 +85,7 @@ impl Bounds for Plain {
                 &self.kept,
                 benches,
                 self.hints.cells(),
-                &first_of(b),
+                &b.first(),
             );
             self.benches = Some(benches);
             return bound_of_single(cost);

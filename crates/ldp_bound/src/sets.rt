@@ -18,7 +18,7 @@ pub(crate) fn prepared_for(
     south: bool,
 ) -> Result<Option<KindCells>, Memory>
     requires { 0 < length cells.now.cells }
-    ensures { IfOk result (λ set. set ≡ set_of grids.now cells.now.cells kind south) }
+    ensures { IfOk result (λ set. set ≡ set_of grids.now.families cells.now.cells kind south) }
 {
     if !some_has(grids, kind, south) {
         return Ok(None);
@@ -28,7 +28,7 @@ pub(crate) fn prepared_for(
 }
 
 fn some_has(grids: &Grids, kind: Kind, south: bool) -> bool
-    ensures { result ≡ list_any (has_lists kind south) grids.now }
+    ensures { result ≡ list_any (has_lists kind south) grids.now.families }
 {
     for index in 0..grids.families() {
         if has_lists(kind, south, grids.family(index + 1)) {

@@ -6,3 +6,4 @@ mod Sweeps
 mod Places
 mod Tallied
 mod Outlines
+mod Raised

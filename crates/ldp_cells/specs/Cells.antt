@@ -46,9 +46,11 @@ is_gap_in test grid row col = test (centre grid row col) && is_none (place_heigh
 unfoldable pub places : HeightGrid → List ℕ
 places grid = range_with_len 0 (grid.cols * grid.rows)
 
+-- the cell of the place with this number in row order; None if it is outside or has no height
 unfoldable pub cell_at : (Point → Bool) → HeightGrid → ℕ → Option Cell
 cell_at test grid place = cell_in test grid (place / grid.cols) (place % grid.cols)
 
+-- the place with this number in row order has its centre inside, and no height
 unfoldable pub is_gap : (Point → Bool) → HeightGrid → ℕ → Bool
 is_gap test grid place = is_gap_in test grid (place / grid.cols) (place % grid.cols)
 
@@ -65,7 +67,7 @@ pub record CellList : Type 0 where
   pub cells : List Cell
   pub missing : ℕ
 
--- at most 200,000 cells
+-- the cells, if they are at most 200,000
 abbrev pub within_limit : CellList → Result CellList CellsFault
 within_limit list =
     if nat_le (length list.cells) 200_000 then Ok list else Err (TooManyCells (length list.cells))

@@ -38,7 +38,7 @@ pub record IsRowOf (grid : HeightGrid) (number : ℕ) (row : Row) : Type 0 where
   pub cols : row.cols ≡ grid.cols
   pub centres : (column : ℕ) → column_centre row column ≡ centre grid number column
 
--- the marks tell which centres of the row pass the test
+-- a mark for each column: true if its centre passes the test
 pub record AreMarks (test : Point → Bool) (row : Row) (marks : List Bool) : Type 0 where
   pub each : length marks ≡ row.cols
   pub tests : (column : ℕ) → column < row.cols

@@ -6,7 +6,7 @@ use Rattle.std.specs.List.{range_with_len}
 use Rattle.ldp_heights.specs.Grid.{HeightGrid, place_height}
 use Rattle.ldp_zone.specs.declared.point.Point.{Point}
 use Rattle.ldp_cells.specs.Cells.{cell_with, cell_at, is_gap, cells_among, gaps_among}
-use Rattle.ldp_cells.specs.Range.{IsInRange}
+use Rattle.ldp_cells.specs.Range.{IsInRange, HasGridHeight}
 use Rattle.ldp_cells.specs.declared.cell.Cell.{Cell}
 
 -- the cells found, as long as there are at most 200,000; how many there are; and how many places
@@ -21,6 +21,7 @@ pub record IsKept (tally : Tally) : Type 0 where
   pub few : length tally.cells ≤ tally.count
   pub most : length tally.cells ≤ 200_000
   pub in_range : All IsInRange tally.cells
+  pub heights : All HasGridHeight tally.cells
 
 -- one place more, which lies in the region and has this height
 abbrev pub with_height : HeightGrid → ℕ → ℕ → Option ℤ → Tally → Tally
@@ -32,6 +33,7 @@ with_height grid row col (Some mm) tally = record {
   missing = tally.missing;
 }
 
+-- one place more, which lies in the region, with the height that the grid has there
 abbrev pub with_place : HeightGrid → ℕ → ℕ → Tally → Tally
 with_place grid row col tally = with_height grid row col (place_height grid row col) tally
 

@@ -7,6 +7,7 @@ use Rattle.ldp_cells.specs.Cells.{in_area}
 use Rattle.ldp_cells.specs.declared.region.Region.{Region}
 use Rattle.ldp_cells.specs.declared.region.Region.TheVariants as regions
 
+-- whether a point lies in the region: inside the edges of a zone, or in the whole area
 abbrev pub test_of : Region → Point → Bool
 test_of (regions.Edges edges) at = inside_of edges.items at
 test_of regions.Area at = in_area at

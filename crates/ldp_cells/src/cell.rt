@@ -1,6 +1,8 @@
-ghost use Rattle.std.specs.Prelude.{◌≡◌, ◌<◌, ◌≤◌, length, All, Some, slice_get};
-ghost use Rattle.ldp_cells.specs.Range.{IsInRange, IsCellList};
+ghost use Rattle.std.specs.Prelude.{◌≡◌, ◌<◌, ◌≤◌, length, All, Some, slice_get, IfOk};
+ghost use Rattle.ldp_cells.specs.Range.{IsInRange, IsCellList, HasGridHeight, IsRise};
+ghost use Rattle.ldp_cells.specs.Range.{raised, raised_cell};
 
+use std::alloc::{AllocError, Global};
 use std::marker::Model;
 
 /// A place of a height grid that has a height and whose centre lies in the zone.
@@ -16,6 +18,22 @@ pub struct Cell {
     pub y: i128,
     /// The height, in millimetres.
     pub mm: i32,
+}
+
+impl Cell {
+    /// The same cell, so many millimetres higher.
+    fn raised(&self, by: i32) -> Cell
+        requires rise { IsRise by }
+        requires range { IsInRange self.now }
+        requires height { HasGridHeight self.now }
+        ensures value { result ≡ raised_cell by self.now }
+        ensures range { IsInRange result }
+    {
+        Cell {
+            mm: self.mm + by,
+            ..*self
+        }
+    }
 }
 
 /// Cells in row order, at most 200,000, and how many places beside them lie in the zone and have no
@@ -72,5 +90,21 @@ impl Cells {
         ensures { result ≡ self.now.missing }
     {
         self.missing
+    }
+
+    /// The same cells, each so many millimetres higher.
+    pub fn raised(&self, alloc: Global, by: i32) -> Result<Cells, AllocError>
+        requires rise { IsRise by }
+        requires heights { All HasGridHeight self.now.cells }
+        ensures { IfOk result (λ list. list ≡ record {
+          cells = raised by self.now.cells;
+          missing = self.now.missing;
+        }) }
+    {
+        let mut cells = Vec::with_capacity(alloc, self.cells.len())?;
+        for cell in &self.cells {
+            cells.push(cell.raised(by))?;
+        }
+        Ok(Cells::new(cells, self.missing))
     }
 }

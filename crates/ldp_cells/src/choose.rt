@@ -1,5 +1,6 @@
-ghost use Rattle.std.specs.Prelude.{◌≡◌, ◌≢◌, Err};
+ghost use Rattle.std.specs.Prelude.{◌≡◌, ◌≢◌, Err, IfOk, All};
 ghost use Rattle.ldp_cells.specs.Cells.{cells_where, zone_cells, area_cells};
+ghost use Rattle.ldp_cells.specs.Range.{HasGridHeight};
 ghost use Rattle.ldp_cells.specs.Rows.{IsNearTest};
 ghost use Rattle.ldp_cells.specs.Tests.{test_of, HasEdges};
 
@@ -16,7 +17,8 @@ use std::alloc::Global;
 
 /// The cells of a zone.
 pub fn zone_cells(alloc: Global, zone: &Zone, heights: &Heights) -> Result<Cells, CellsFault>
-    ensures { result ≢ Err CellsFault.Memory → result ≡ zone_cells zone.now heights.now }
+    ensures heights { IfOk result (λ list. All HasGridHeight list.cells) }
+    ensures value { result ≢ Err CellsFault.Memory → result ≡ zone_cells zone.now heights.now }
 {
     let edges = edges_of(alloc, zone)?;
     cells_where(alloc, &Region::Edges(edges), heights)
@@ -24,7 +26,8 @@ pub fn zone_cells(alloc: Global, zone: &Zone, heights: &Heights) -> Result<Cells
 
 /// The cells of the area of longitude -180 to 360 and latitude -80 to 80 degrees.
 pub fn area_cells(alloc: Global, heights: &Heights) -> Result<Cells, CellsFault>
-    ensures { result ≢ Err CellsFault.Memory → result ≡ area_cells heights.now }
+    ensures heights { IfOk result (λ list. All HasGridHeight list.cells) }
+    ensures value { result ≢ Err CellsFault.Memory → result ≡ area_cells heights.now }
 {
     cells_where(alloc, &Region::Area, heights)
 }
@@ -32,7 +35,8 @@ pub fn area_cells(alloc: Global, heights: &Heights) -> Result<Cells, CellsFault>
 fn cells_where(alloc: Global, region: &Region, heights: &Heights) -> Result<Cells, CellsFault>
     requires edges { HasEdges region.now }
     requires near { IsNearTest (test_of region.now) }
-    ensures { result ≢ Err CellsFault.Memory
+    ensures heights { IfOk result (λ list. All HasGridHeight list.cells) }
+    ensures value { result ≢ Err CellsFault.Memory
         → result ≡ cells_where (test_of region.now) heights.now }
 {
     let mut line = Scanline::new(alloc, heights.cols())?;

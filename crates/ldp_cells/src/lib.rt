@@ -9,9 +9,11 @@ mod outline;
 mod region;
 mod row;
 mod scanline;
+mod station;
 mod sweep;
 mod tally;
 
 pub use cell::{Cell, Cells};
 pub use choose::{area_cells, zone_cells};
 pub use fault::CellsFault;
+pub use station::station_cells;

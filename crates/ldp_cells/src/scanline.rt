@@ -39,6 +39,7 @@ impl Scanline {
         })
     }
 
+    /// For each column from the west, whether its centre was marked.
     pub fn marks(&self) -> &[bool]
         ensures { result.now ≡ self.now.marks }
     {

@@ -4,6 +4,7 @@ ghost use Rattle.ldp_heights.specs.Grid.{HeightGrid, most_places};
 ghost use Rattle.ldp_zone.specs.Area.{IsNear};
 ghost use Rattle.ldp_zone.specs.declared.point.Point.{Point};
 ghost use Rattle.ldp_cells.specs.Cells.{centre, cells_where};
+ghost use Rattle.ldp_cells.specs.Range.{HasGridHeight};
 ghost use Rattle.ldp_cells.specs.Tallies.{IsTally, with_place};
 
 use crate::cell::{Cell, Cells};
@@ -106,7 +107,8 @@ impl Tally {
 
     /// The cells, where all places were gone through.
     pub fn finish(self) -> Result<Cells, CellsFault>
-        ensures { (test : Point → Bool) (grid : HeightGrid)
+        ensures heights { IfOk result (λ list. All HasGridHeight list.cells) }
+        ensures value { (test : Point → Bool) (grid : HeightGrid)
             → IsTally test grid (grid.cols * grid.rows) self → result ≡ cells_where test grid }
     {
         if self.count > MOST_CELLS {

@@ -12,8 +12,9 @@ use Rattle.ldp_design.specs.declared.node.Node.{Node}
 use Rattle.ldp_design.specs.declared.node.Node.TheVariants.{Tree, Split, Leaf, Unusable}
 use Rattle.ldp_design.specs.Families.{AreGrids, family_of}
 use Rattle.ldp_design.specs.Designs.{IsAdmitted}
-use Rattle.ldp_design.specs.Boxes.{LiesIn, AllLieIn, IsIn, IsWhole, whole_box, first_of}
-use Rattle.ldp_design.specs.Splits.{AreParts, parts_at}
+use Rattle.ldp_design.specs.Boxes.{LiesIn, IsIn, whole_box, first_of}
+use Rattle.ldp_design.specs.Laws.{AllLieIn, IsWhole, AreParts}
+use Rattle.ldp_design.specs.Splits.{parts_at}
 use Rattle.ldp_design.specs.Forests.{is_shaped}
 use Rattle.ldp_design.proofs.Wholes.{wholes_hold, singles_have_one}
 use Rattle.ldp_design.proofs.Cuts.{cuts_part}
@@ -25,7 +26,8 @@ use Rattle.ldp_problem.proofs.Facts.{leaf_below}
 use Rattle.ldp_check.specs.Entries.{first_fault, missing_fault, leaf_fault, leaf_pair, open_fault}
 use Rattle.ldp_check.proofs.Faults.{both_none, fails, tree_in_place, is_cut, leaf_closed}
 use Rattle.ldp_check.proofs.Faults.{IsUnusable, unusable_is, all_begun}
-use Rattle.ldp_check.proofs.Pairs.{at_most_trans, at_most_values}
+use Rattle.ldp_problem.proofs.Pairs.{at_most_trans}
+use Rattle.ldp_check.proofs.Pairs.{at_most_values}
 
 -- a design of one of the boxes to come
 abbrev InSome : Design → List DesignBox → Type 0

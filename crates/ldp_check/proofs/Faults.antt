@@ -6,11 +6,11 @@ use Rattle.std.specs.Prelude.{nat_lt, not, ◌&&◌, is_none, if◌then◌else�
 use Rattle.std.specs.Bool.{then_some}
 use Rattle.std.specs.Option.{option_or}
 use Rattle.ldp_design.specs.declared.axis.AxisName.{AxisName}
-use Rattle.ldp_design.specs.declared.axis.AxisName.TheVariants.{Lat, Lon, Azimuth, Scale}
 use Rattle.ldp_design.specs.declared.family.Family.{Family}
 use Rattle.ldp_design.specs.declared.design_box.DesignBox.{DesignBox}
-use Rattle.ldp_design.specs.Boxes.{span_of, is_single, IsSingle, first_of}
+use Rattle.ldp_design.specs.Boxes.{is_single, IsSingle, first_of}
 use Rattle.ldp_design.specs.Splits.{IsCut}
+use Rattle.ldp_design.proofs.Splits.{singles_are_tested}
 use Rattle.ldp_problem.specs.declared.pair.Pair.{Pair}
 use Rattle.ldp_problem.specs.Problem.{Problem}
 use Rattle.ldp_check.specs.declared.reason.Reason.{Reason}
@@ -53,15 +53,6 @@ leaf_closed p w line cell b e =
     let h = passed (nat_lt cell p.cells) _ _ e in
     (grind (arith, nat_tests, h.0), h.1)
 
-pub single_is : (b : DesignBox) → is_single b ≡ true → IsSingle b
-single_is b h = record { one = one }
-  where
-    one : (axis : AxisName) → (span_of axis b).lo ≡ (span_of axis b).hi
-    one Lat = grind (arith, nat_tests)
-    one Lon = grind (arith, nat_tests)
-    one Azimuth = grind (arith, nat_tests)
-    one Scale = grind (arith, nat_tests)
-
 -- a box whose one design is undefined at the cell
 pub record IsUnusable (p : Problem) (cell : ℕ) (b : DesignBox) : Type 0 where
   pub within : cell < p.cells
@@ -83,7 +74,7 @@ unusable_is p line cell b e =
     let k = both_true (is_single b) (is_none (p.delta (first_of b) cell)) (holds _ _ h.1) in
     record {
       within = grind (arith, nat_tests, h.0);
-      single = single_is b k.0;
+      single = (singles_are_tested b).0 k.0;
       undefined = none_is (p.delta (first_of b) cell) k.1;
     }
 

@@ -1,5 +1,4 @@
 mod Answered
-mod Boxes
 mod Counts
 mod Faults
 mod Walks

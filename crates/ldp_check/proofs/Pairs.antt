@@ -5,9 +5,6 @@ use Rattle.std.specs.Prelude.{nat_lt}
 use Rattle.ldp_problem.specs.declared.pair.Pair.{Pair}
 use Rattle.ldp_problem.specs.Pairs.{AtMost}
 
-pub at_most_trans : (a b c : Pair) → AtMost a b → AtMost b c → AtMost a c
-at_most_trans a b c h k = grind (arith, nat_tests)
-
 -- where no cells are counted, the distortions decide
 pub at_most_values : (a b : Pair) → a.over ≡ 0 → b.over ≡ 0 → nat_lt b.value a.value ≡ false
     → AtMost a b

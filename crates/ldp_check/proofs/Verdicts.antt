@@ -1,15 +1,15 @@
 -- The first reason against a certificate, and what follows where there is none.
-use Rattle.std.proofs.Common.{◌≡◌, ℕ, ℤ, pos, Bool, true, false, List, [], ◌∷◌, Option, Some, None}
+use Rattle.std.proofs.Common.{◌≡◌, ℕ, ℤ, pos, true, false, List, [], ◌∷◌, Option, Some, None}
 use Rattle.std.proofs.Common.{refl, subst, ◌∙◌, inl, arith}
 use Rattle.std.proofs.lemmas.Bool.Decides.{nat_tests}
 use Rattle.std.proofs.lemmas.List.Elements.{All-nil}
-use Rattle.std.specs.Prelude.{IfSome, IsTrue, ◌↔◌, option_map, unsigned_abs}
+use Rattle.std.specs.Prelude.{IfSome, option_map, unsigned_abs}
 use Rattle.std.specs.Option.{option_or}
 use Rattle.std.specs.Cmp.{signed_Decides}
 use Rattle.ldp_design.specs.declared.family.Family.{Family}
 use Rattle.ldp_design.specs.declared.design.Design.{Design}
-use Rattle.ldp_design.specs.Families.{family_of}
-use Rattle.ldp_design.specs.Designs.{IsDesignOf, IsAdmitted}
+use Rattle.ldp_design.specs.Designs.{IsAdmitted, is_admitted}
+use Rattle.ldp_design.proofs.Wholes.{admitted_are_tested}
 use Rattle.ldp_design.specs.Boxes.{LiesIn}
 use Rattle.ldp_design.specs.Forests.{node_count}
 use Rattle.ldp_problem.specs.declared.pair.Pair.{Pair}
@@ -29,7 +29,7 @@ use Rattle.ldp_check.specs.declared.verdict.Verdict.TheVariants.{Accepted}
 use Rattle.ldp_check.specs.Reports.{report_of}
 use Rattle.ldp_check.specs.Inputs.{other_input}
 use Rattle.ldp_check.specs.Printed.{printed, printed_over, forest_line, SameTolerance}
-use Rattle.ldp_check.specs.Verdicts.{has_design, is_design_of, is_admitted, input_differs}
+use Rattle.ldp_check.specs.Verdicts.{input_differs}
 use Rattle.ldp_check.specs.Verdicts.{not_admitted, not_usable, other_over, other_worst}
 use Rattle.ldp_check.specs.Verdicts.{other_report, over_differs, worst_differs, report_differs}
 use Rattle.ldp_check.specs.Verdicts.{forest_fault, first_some, reason_against, verdict_by}
@@ -37,41 +37,6 @@ use Rattle.ldp_check.specs.Verdicts.{AcceptedAreProved}
 use Rattle.ldp_check.proofs.Answered.{IsCost}
 use Rattle.ldp_check.proofs.Faults.{holds}
 use Rattle.ldp_check.proofs.Covered.{CountsNone, known, covered}
-
--- the test of admissible designs
-design_is : (f : Family) (d : Design) → has_design f d ≡ true → IsDesignOf f d
-design_is f d e = record {
-  lat = grind (arith, nat_tests);
-  lon = grind (arith, nat_tests);
-  azimuth = grind (arith, nat_tests);
-  scale = grind (arith, nat_tests);
-}
-
-has_it : (f : Family) (d : Design) → IsDesignOf f d → has_design f d ≡ true
-has_it f d h = grind (arith, nat_tests, h.lat, h.lon, h.azimuth, h.scale)
-
-admitted_by : (families : List Family) (d : Design) (f : Option Family)
-    → family_of families d.family ≡ f
-    → is_design_of f d ≡ true → IsAdmitted families d
-admitted_by families d None e h = absurd cc
-admitted_by families d (Some f) e h = record { family = f; found = e; within = design_is f d h }
-
-pub admitted_is : (families : List Family) (d : Design) → is_admitted families d ≡ true
-    → IsAdmitted families d
-admitted_is families d h = admitted_by families d (family_of families d.family) refl h
-
-pub is_admitted_true : (families : List Family) (d : Design) → IsAdmitted families d
-    → is_admitted families d ≡ true
-is_admitted_true families d h = rw h.found (has_it h.family d h.within)
-
-pub is_admitted_false : (families : List Family) (d : Design) (answer : Bool)
-    → (IsTrue answer ↔ IsAdmitted families d)
-    → answer ≡ false → is_admitted families d ≡ false
-is_admitted_false families d answer h e = by_test (is_admitted families d) refl
-  where
-    by_test : (b : Bool) → is_admitted families d ≡ b → is_admitted families d ≡ false
-    by_test false k = k
-    by_test true k = let passed : answer ≡ true = h.1 (admitted_is families d k) in absurd cc
 
 -- the first reason, found in the order of the list
 pub input_first : (p : Problem) (list : CellList) (names : Names) (job : Job) (which : Role)
@@ -123,7 +88,7 @@ known_reason p list names job families over cell value answer e admitted h same 
     let told : answer ≡ first_some (over_differs p job ∷ worst_differs p job ∷ report_differs p list
     job ∷ []) =
     k ∙ printed_is p list job families over cell value h same in
-    rw (e, is_admitted_true p.families job.design admitted, h.none, told)
+    rw (e, (admitted_are_tested p.families job.design).1 admitted, h.none, told)
     (first_three (over_differs p job) (worst_differs p job) (report_differs p list job)
     (forest_fault p job))
 
@@ -214,7 +179,8 @@ accepted_are_proved p list names job sound grids tolerance shape accepted =
     let counts : CountsNone p (printed job) = no_share p job.share tolerance in
     record {
       admissible =
-          admitted_is p.families job.design (holds (is_admitted p.families job.design) NotAdmissible
+          (admitted_are_tested p.families job.design).0
+          (holds (is_admitted p.families job.design) NotAdmissible
           none.admitted_none);
       usable =
           none_undefined p job.design (none_mapped DesignUnusable (first_undefined p job.design)

@@ -11,15 +11,17 @@ use Rattle.ldp_design.specs.declared.design_box.DesignBox.{DesignBox}
 use Rattle.ldp_design.specs.declared.node.Node.{Node}
 use Rattle.ldp_design.specs.declared.node.Node.TheVariants.{Tree, Split, Leaf, Unusable}
 use Rattle.ldp_design.specs.Families.{AreGrids, family_of}
-use Rattle.ldp_design.specs.Boxes.{LiesIn, AllLieIn, whole_box}
-use Rattle.ldp_design.specs.Splits.{AreParts, parts_at}
+use Rattle.ldp_design.specs.Boxes.{LiesIn, whole_box}
+use Rattle.ldp_design.specs.Laws.{AllLieIn, AreParts}
+use Rattle.ldp_design.specs.Splits.{parts_at}
 use Rattle.ldp_design.specs.Forests.{Place, after}
 use Rattle.ldp_design.proofs.Wholes.{wholes_hold}
 use Rattle.ldp_design.proofs.Cuts.{cuts_part}
 use Rattle.ldp_problem.specs.declared.pair.Pair.{Pair}
 use Rattle.ldp_problem.specs.Problem.{Problem}
 use Rattle.ldp_check.specs.declared.reason.Reason.{Reason}
-use Rattle.ldp_check.specs.Entries.{fault_at, first_fault, missing_fault, IsPlace}
+use Rattle.ldp_check.specs.Entries.{fault_at, first_fault, missing_fault}
+use Rattle.ldp_check.specs.Walks.{IsPlace}
 use Rattle.ldp_check.proofs.Faults.{tree_in_place, is_cut}
 
 next_entry : (entries : List Node) (i : ℕ) (entry : Node) → slice_get entries i ≡ Some entry

@@ -1,6 +1,6 @@
 -- The entries of a forest, each judged at its place: the trees that have begun, and the boxes whose
 -- nodes are still to come. (Own choice of this project.)
-use Rattle.std.specs.Prelude.{◌≤◌, ℕ, suc, pos, ◌+◌, ◌==◌, ◌&&◌, not, nat_lt, nat_le, length}
+use Rattle.std.specs.Prelude.{ℕ, suc, pos, ◌+◌, ◌==◌, ◌&&◌, not, nat_lt, nat_le, length}
 use Rattle.std.specs.Prelude.{List, [], ◌∷◌, Option, None, Some, is_none, if◌then◌else◌}
 use Rattle.std.specs.Bool.{then_some}
 use Rattle.std.specs.Option.{option_or}
@@ -9,7 +9,7 @@ use Rattle.ldp_design.specs.declared.family.Family.{Family}
 use Rattle.ldp_design.specs.declared.design_box.DesignBox.{DesignBox}
 use Rattle.ldp_design.specs.declared.node.Node.{Node}
 use Rattle.ldp_design.specs.declared.node.Node.TheVariants.{Tree, Split, Leaf, Unusable}
-use Rattle.ldp_design.specs.Boxes.{span_of, is_single, first_of, AllLieIn}
+use Rattle.ldp_design.specs.Boxes.{span_of, is_single, first_of}
 use Rattle.ldp_design.specs.Forests.{Place, after}
 use Rattle.ldp_problem.specs.declared.pair.Pair.{Pair}
 use Rattle.ldp_problem.specs.Problem.{Problem}
@@ -31,8 +31,8 @@ split_fault line axis cut b =
     then_some (not (nat_le (span_of axis b).lo cut && nat_lt cut (span_of axis b).hi))
     (BadSplit line)
 
--- what a leaf shows of each usable design of its box: so many cells beyond the tolerance, and at
--- the cell this distortion
+-- what a leaf shows of each usable design of its box: at least so many cells beyond the tolerance,
+-- and at the cell at least this absolute distortion
 abbrev pub leaf_pair : Problem → DesignBox → ℕ → Pair
 leaf_pair p b cell =
     record { over = beyond p.tolerance (lows p b); value = p.lower b cell }
@@ -81,9 +81,3 @@ first_fault p printed line [] at = missing_fault p.families at.trees
 first_fault p printed line (entry ∷ entries) at =
     option_or (fault_at p printed line entry at)
     (first_fault p printed (line + 1) entries (after p.families entry at))
-
--- what a walk keeps after so many entries without a fault
-pub record IsPlace (families : List Family) (entries : ℕ) (at : Place) : Type 0 where
-  pub trees : at.trees ≤ length families
-  pub boxes : AllLieIn families at.boxes
-  pub short : length at.boxes ≤ entries

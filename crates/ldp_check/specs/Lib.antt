@@ -4,3 +4,4 @@ pub mod Printed
 pub mod Entries
 pub mod Stacks
 pub mod Verdicts
+pub mod Walks

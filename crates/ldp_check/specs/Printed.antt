@@ -15,12 +15,12 @@ printed_over (Some share) = share.over
 abbrev pub printed : Job → Pair
 printed job = record { over = printed_over job.share; value = unsigned_abs job.worst }
 
--- the first line of the report, and that of the forest: the three lines with the names of files
--- stand before them
+-- the first line of the report, from 1; if there are names, three lines more stand before it
 abbrev pub report_line : Option Names → ℕ
 report_line None = 4
 report_line (Some names) = 7
 
+-- the line of the first entry of the forest, from 1
 abbrev pub forest_line : Option Names → ℕ
 forest_line None = 13
 forest_line (Some names) = 16

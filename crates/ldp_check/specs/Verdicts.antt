@@ -1,14 +1,13 @@
 -- The verdict on a certificate: the first of the reasons against it, in this order. (Own choice of
 -- this project.)
-use Rattle.std.specs.Prelude.{◌≡◌, ℕ, pos, ◌+◌, ℤ, ◌==◌, ◌&&◌, not, Bool, false, nat_lt}
+use Rattle.std.specs.Prelude.{◌≡◌, ℕ, pos, ◌+◌, ℤ, ◌==◌, not}
 use Rattle.std.specs.Prelude.{List, [], ◌∷◌, Option, None, Some, option_map, option_and_then}
 use Rattle.std.specs.Prelude.{IfSome}
 use Rattle.std.specs.Bool.{then_some}
 use Rattle.std.specs.Ordering.{int_eq}
-use Rattle.ldp_design.specs.declared.family.Family.{Family}
 use Rattle.ldp_design.specs.declared.design.Design.{Design}
-use Rattle.ldp_design.specs.Families.{family_of, AreGrids}
-use Rattle.ldp_design.specs.Designs.{IsAdmitted}
+use Rattle.ldp_design.specs.Families.{AreGrids}
+use Rattle.ldp_design.specs.Designs.{IsAdmitted, is_admitted}
 use Rattle.ldp_design.specs.Forests.{node_count, start, IsWellShaped}
 use Rattle.ldp_problem.specs.Problem.{Problem, IsSound}
 use Rattle.ldp_problem.specs.Pairs.{AtMost}
@@ -32,21 +31,6 @@ use Rattle.ldp_check.specs.Entries.{first_fault}
 -- it names another file
 abbrev pub input_differs : Names → Job → Option Reason
 input_differs names job = option_map OtherInput (other_input names job.names)
-
--- the index of each axis is below its count
-abbrev pub has_design : Family → Design → Bool
-has_design f d =
-    (nat_lt d.lat f.lat.count && nat_lt d.lon f.lon.count)
-    && (nat_lt d.azimuth f.azimuth.count && nat_lt d.scale f.scale.count)
-
--- a design of a family that exists
-abbrev pub is_design_of : Option Family → Design → Bool
-is_design_of None d = false
-is_design_of (Some f) d = has_design f d
-
--- an admissible design
-abbrev pub is_admitted : List Family → Design → Bool
-is_admitted families d = is_design_of (family_of families d.family) d
 
 -- its design is not admissible
 abbrev pub not_admitted : Problem → Job → Option Reason

@@ -29,7 +29,7 @@ pub fn check<B: Bounds>(
     names: &Names,
     job: &Job,
 ) -> Result<Verdict, AllocError>
-    requires families { (B.problem bounds.old).families ≡ grids.now }
+    requires families { (B.problem bounds.old).families ≡ grids.now.families }
     requires cells { (B.problem bounds.old).cells ≡ length cells.now.cells }
     requires tolerance { SameTolerance (B.problem bounds.old) job.now.share }
     requires forest { IsWellShaped job.now.forest }
@@ -51,7 +51,7 @@ pub fn check_in<B: Bounds>(
     names: &Names,
     job: &Job,
 ) -> Verdict
-    requires families { (B.problem bounds.old).families ≡ grids.now }
+    requires families { (B.problem bounds.old).families ≡ grids.now.families }
     requires cells { (B.problem bounds.old).cells ≡ length cells.now.cells }
     requires tolerance { SameTolerance (B.problem bounds.old) job.now.share }
     requires forest { IsWellShaped job.now.forest }
@@ -76,13 +76,13 @@ fn reason_against<B: Bounds>(
     names: &Names,
     job: &Job,
 ) -> Option<Reason>
-    requires families { (B.problem bounds.old).families ≡ grids.now }
+    requires families { (B.problem bounds.old).families ≡ grids.now.families }
     requires cells { (B.problem bounds.old).cells ≡ length cells.now.cells }
     requires forest { IsWellShaped job.now.forest }
     requires room { length job.now.forest ≤ stack.old.room }
     ensures reason { result
         ≡ reason_against (B.problem bounds.old) cells.now names.now job.now }
-    ensures grids { IfNone result (AreGrids grids.now) }
+    ensures grids { IfNone result (AreGrids grids.now.families) }
     ensures same { B.problem bounds.new ≡ B.problem bounds.old }
     ensures room { stack.new.room ≡ stack.old.room }
 {
@@ -114,12 +114,12 @@ fn printed_differs(
     value: i128,
     cell: u32,
 ) -> Option<Reason>
-    requires admitted { IsAdmitted grids.now job.now.design }
+    requires admitted { IsAdmitted grids.now.families job.now.design }
     requires cell { cell < length cells.now.cells }
     requires forest { IsWellShaped job.now.forest }
     ensures { result ≡ first_some (other_over job.now.share over
         ∷ other_worst job.now.worst value
-        ∷ other_report job.now.names job.now.report (report_of grids.now cells.now
+        ∷ other_report job.now.names job.now.report (report_of grids.now.families cells.now
         job.now.design value cell (node_count job.now.forest))
         ∷ []) }
 {

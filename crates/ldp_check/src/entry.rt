@@ -2,7 +2,7 @@
 ghost use Rattle.std.specs.Prelude.{◌≡◌, ◌≤◌, ◌<◌, ℕ, List, length, IfNone};
 ghost use Rattle.ldp_design.specs.declared.node.Node.TheVariants as entries;
 ghost use Rattle.ldp_design.specs.declared.family.Family.{Family};
-ghost use Rattle.ldp_design.specs.Boxes.{AllLieIn};
+ghost use Rattle.ldp_design.specs.Laws.{AllLieIn};
 ghost use Rattle.ldp_design.specs.Forests.{after};
 ghost use Rattle.ldp_check.specs.Entries.{fault_at, tree_fault, split_fault, box_fault};
 ghost use Rattle.ldp_check.specs.Entries.{leaf_fault, unusable_fault};
@@ -22,11 +22,11 @@ fn plant(
     line: u32,
     number: u16,
 ) -> Option<Reason>
-    requires trees { trees.old ≤ length grids.now }
+    requires trees { trees.old ≤ length grids.now.families }
     requires room { length stack.old.boxes < stack.old.room }
-    ensures fault { result ≡ tree_fault grids.now line number trees.old }
+    ensures fault { result ≡ tree_fault grids.now.families line number trees.old }
     ensures next { IfNone result (place trees.new stack.new
-        ≡ after grids.now (entries.Tree number) (place trees.old stack.old)) }
+        ≡ after grids.now.families (entries.Tree number) (place trees.old stack.old)) }
     ensures room { stack.new.room ≡ stack.old.room }
 {
     if *trees == grids.families() || number != *trees + 1 {
@@ -105,14 +105,14 @@ pub fn step<B: Bounds>(
     line: u32,
     entry: Node,
 ) -> Option<Reason>
-    requires families { (B.problem bounds.old).families ≡ grids.now }
-    requires trees { trees.old ≤ length grids.now }
+    requires families { (B.problem bounds.old).families ≡ grids.now.families }
+    requires trees { trees.old ≤ length grids.now.families }
     requires boxes { AllLieIn (B.problem bounds.old).families stack.old.boxes }
     requires room { length stack.old.boxes < stack.old.room }
     ensures fault { result
         ≡ fault_at (B.problem bounds.old) printed line entry (place trees.old stack.old) }
     ensures next { IfNone result (place trees.new stack.new
-        ≡ after grids.now entry (place trees.old stack.old)) }
+        ≡ after grids.now.families entry (place trees.old stack.old)) }
     ensures room { stack.new.room ≡ stack.old.room }
     ensures same { B.problem bounds.new ≡ B.problem bounds.old }
 {

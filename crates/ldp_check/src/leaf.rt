@@ -1,7 +1,7 @@
 //! What an entry says of the box that it closes.
 ghost use Rattle.std.specs.Prelude.{◌≡◌, nat_lt, pos, unsigned_abs, Some, option_map};
 ghost use Rattle.std.specs.Bool.{then_some};
-ghost use Rattle.ldp_design.specs.Boxes.{LiesIn, first_of};
+ghost use Rattle.ldp_design.specs.Boxes.{LiesIn};
 ghost use Rattle.ldp_problem.specs.declared.pair.Pair.{Pair};
 ghost use Rattle.ldp_problem.specs.Pairs.{is_smaller};
 ghost use Rattle.ldp_problem.specs.Costs.{beyond, lows};
@@ -9,7 +9,7 @@ ghost use Rattle.ldp_check.specs.Entries.{leaf_fault, unusable_fault};
 
 use crate::number::count_above;
 use crate::reason::Reason;
-use ldp_design::{Design, DesignBox, is_single};
+use ldp_design::{DesignBox, is_single};
 use ldp_problem::{Bound, Bounds, Pair};
 
 /// Whether a leaf shows at its cell that no design of the box has a smaller cost than the printed
@@ -94,7 +94,6 @@ fn count_beyond<B: Bounds>(bounds: &mut B, b: &DesignBox, tolerance: i128) -> u3
 }
 
 /// Whether there is no such cell, or the box is not of one design that is undefined there.
-#[tactic(auto, using(crate::proofs::Boxes::first_admitted))]
 pub fn unusable_fault<B: Bounds>(
     bounds: &mut B,
     b: &DesignBox,
@@ -111,20 +110,8 @@ pub fn unusable_fault<B: Bounds>(
     if !is_single(b) {
         return Some(Reason::NotUnusable { line });
     }
-    if bounds.defined(&first_of(b), cell) {
+    if bounds.defined(&b.first(), cell) {
         return Some(Reason::NotUnusable { line });
     }
     None
-}
-
-fn first_of(b: &DesignBox) -> Design
-    ensures { result ≡ first_of b.now }
-{
-    Design {
-        family: b.family,
-        lat: b.lat.lo,
-        lon: b.lon.lo,
-        azimuth: b.azimuth.lo,
-        scale: b.scale.lo,
-    }
 }

@@ -1,6 +1,7 @@
 ghost use Rattle.std.specs.Prelude.{◌≡◌, ◌≤◌, int_lt, if◌then◌else◌};
 ghost use Rattle.std.specs.Ordering.{int_eq};
 
+/// Whether two numbers are equal.
 pub fn is_equal(a: &i128, b: &i128) -> bool
     ensures { result ≡ int_eq a.now b.now }
 {

@@ -3,6 +3,7 @@ ghost use Rattle.std.specs.Prelude.{◌≡◌, ◌≤◌, ◌<◌, ◌==◌, not
 ghost use Rattle.std.specs.Bool.{then_some};
 ghost use Rattle.ldp_design.specs.Designs.{IsAdmitted};
 ghost use Rattle.ldp_design.specs.Forests.{IsWellShaped, is_node, node_count};
+ghost use Rattle.ldp_design.specs.Limits.{most_nodes};
 ghost use Rattle.ldp_check.specs.Reports.{report_of};
 ghost use Rattle.ldp_check.specs.Printed.{printed, printed_over, report_line, forest_line};
 ghost use Rattle.ldp_check.specs.Verdicts.{other_over, other_worst, other_report};
@@ -56,6 +57,8 @@ fn report_line(names: &Option<Names>) -> u32
     }
 }
 
+/// The reason, if the certificate prints another number of cells beyond its tolerance than this;
+/// none if it has no tolerance.
 pub fn over_differs(share: Option<Share>, actual: u32) -> Option<Reason>
     ensures { result ≡ other_over share actual }
 {
@@ -75,6 +78,8 @@ fn other_over(printed: u32, actual: u32) -> Option<Reason>
     }
 }
 
+/// The reason, if the certificate prints another worst distortion than this; both are in units of
+/// 10^-15.
 pub fn worst_differs(printed: i128, actual: i128) -> Option<Reason>
     ensures { result ≡ other_worst printed actual }
 {
@@ -94,11 +99,12 @@ pub fn report_differs(
     worst: i128,
     cell: u32,
 ) -> Option<Reason>
-    requires admitted { IsAdmitted grids.now job.now.design }
+    requires admitted { IsAdmitted grids.now.families job.now.design }
     requires cell { cell < length cells.now.cells }
     requires forest { IsWellShaped job.now.forest }
     ensures { result ≡ other_report job.now.names job.now.report
-        (report_of grids.now cells.now job.now.design worst cell (node_count job.now.forest)) }
+        (report_of grids.now.families cells.now job.now.design worst cell
+        (node_count job.now.forest)) }
 {
     let nodes = node_count(&job.forest);
     let actual = report_of(grids, cells, &job.design, worst, cell, nodes);
@@ -118,7 +124,7 @@ fn other_report(names: &Option<Names>, printed: &Report, actual: &Report) -> Opt
 
 /// How many nodes a forest has.
 fn node_count(forest: &Forest) -> u32
-    requires { node_count forest.now ≤ 2_000_000 }
+    requires { node_count forest.now ≤ most_nodes }
     ensures { result ≡ node_count forest.now }
 {
     let mut nodes = 0;

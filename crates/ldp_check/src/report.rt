@@ -19,9 +19,9 @@ pub fn report_of(
     cell: u32,
     nodes: u32,
 ) -> Report
-    requires admitted { IsAdmitted grids.now d.now }
+    requires admitted { IsAdmitted grids.now.families d.now }
     requires cell { cell < length cells.now.cells }
-    ensures value { report_of grids.now cells.now d.now worst cell nodes ≡ Some result }
+    ensures value { report_of grids.now.families cells.now d.now worst cell nodes ≡ Some result }
     ensures range { IsWorst worst → IsReport result }
 {
     let family = grids.family(d.family);

@@ -20,13 +20,13 @@ pub fn first_fault<B: Bounds>(
     printed: Pair,
     first: u32,
 ) -> Option<Reason>
-    requires families { (B.problem bounds.old).families ≡ grids.now }
+    requires families { (B.problem bounds.old).families ≡ grids.now.families }
     requires forest { IsWellShaped forest.now }
     requires room { length forest.now ≤ stack.old.room }
     requires line { first ≤ 16 }
     ensures fault { result
         ≡ first_fault (B.problem bounds.old) printed first forest.now start }
-    ensures grids { AreGrids grids.now }
+    ensures grids { AreGrids grids.now.families }
     ensures room { stack.new.room ≡ stack.old.room }
     ensures same { B.problem bounds.new ≡ B.problem bounds.old }
 {

@@ -19,9 +19,9 @@ use Rattle.ldp_cli.proofs.Upgraded.{same_problem, short_read}
 is_found : (asked : DesignRequest) (files : Files) (problem : ProblemFiles) (list : CellList)
     (answer : Answer) → problem_read asked.problem files ≡ Ok problem
     → cells_read problem.zone problem.heights ≡ Ok list
-    → design_over list problem.grids problem.names asked.limits.budget
+    → design_over list problem.grids.families problem.names asked.limits.budget
     (option_map unsigned_abs asked.limits.tolerance) ≡ Ok answer
-    → IsAcceptedText list problem.grids problem.names answer.text → answer.rejected ≡ false
+    → IsAcceptedText list problem.grids.families problem.names answer.text → answer.rejected ≡ false
     → IsCertified asked files
 is_found asked files problem list answer e f g h done = record {
   text = answer.text;
@@ -40,9 +40,9 @@ pub told_found : (asked : DesignRequest) (files : Option Files) (problem : Probl
     (list : CellList) (answer : Answer)
     → IfSome files (λ f. Gives (Ok problem) (problem_read asked.problem f))
     → cells_read problem.zone problem.heights ≡ Ok list
-    → design_over list problem.grids problem.names asked.limits.budget
+    → design_over list problem.grids.families problem.names asked.limits.budget
     (option_map unsigned_abs asked.limits.tolerance) ≡ Ok answer
-    → IsAcceptedText list problem.grids problem.names answer.text → answer.rejected ≡ false
+    → IsAcceptedText list problem.grids.families problem.names answer.text → answer.rejected ≡ false
     → IfSome files (λ f. IsCertified asked f)
 told_found asked None problem list answer told e f g done = tt
 told_found asked (Some files) problem list answer told e f g done =

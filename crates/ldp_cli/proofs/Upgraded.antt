@@ -54,11 +54,12 @@ read_again asked again files later read j e same is =
 
 pub is_upgraded : (asked : JobRequest) (files : Files) (read : Certificate) (text : List ℕ)
     → certificate_read asked files ≡ Ok read → AreNames read.names → IsJob read.job
-    → upgrade_over read.cells read.grids read.names read.job
+    → upgrade_over read.cells read.grids.families read.names read.job
     ≡ record { rejected = false; text = text }
     → IsUpgraded asked files
 is_upgraded asked files read text e are is printed =
-    let law = upgraded_are_accepted read.cells read.grids read.names read.job text are is printed in
+    let law = upgraded_are_accepted read.cells read.grids.families read.names read.job text are is
+    printed in
     record {
       text = text;
       is_printed = rw e (ap Ok printed);
@@ -72,7 +73,7 @@ is_upgraded asked files read text e are is printed =
 pub told_upgraded : (asked : JobRequest) (files : Option Files) (read : Certificate)
     (answer : Answer) → IfSome files (λ f. Gives (Ok read) (certificate_read asked f))
     → AreNames read.names → IsJob read.job
-    → answer ≡ upgrade_over read.cells read.grids read.names read.job
+    → answer ≡ upgrade_over read.cells read.grids.families read.names read.job
     → answer.rejected ≡ false → IfSome files (λ f. IsUpgraded asked f)
 told_upgraded asked None read answer told are is e done = tt
 told_upgraded asked (Some f) read answer told are is e done =

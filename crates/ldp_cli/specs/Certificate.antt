@@ -4,7 +4,7 @@ use Rattle.std.specs.Prelude.{◌≡◌, ℕ, List, [], ◌∷◌, Option, Some,
 use Rattle.ldp_quantity.specs.Results.{◌>>=◌}
 use Rattle.ldp_io.specs.Shelf.{Files}
 use Rattle.ldp_check.specs.Verdicts.{IsProved}
-use Rattle.ldp_message.specs.declared.role.Role.TheVariants as roles
+use Rattle.ldp_message.specs.declared.file_role.FileRole.TheVariants as roles
 use Rattle.ldp_message.specs.declared.refusal.Refusal.{Refusal}
 use Rattle.ldp_answer.specs.Cells.{cells_read}
 use Rattle.ldp_answer.specs.Check.{job_problem}
@@ -26,11 +26,13 @@ job_request (zone ∷ heights ∷ grids ∷ job ∷ []) = Some record {
 }
 job_request _ = None
 
+-- the files to read, in this order: zone, heights, design grids, job
 abbrev pub job_files : JobRequest → List Asked
 job_files asked =
     problem_files asked.problem (record { role = roles.Job; name = asked.job } ∷ [])
 
--- the cells are formed once all files are read
+-- what is read of the four files, or the first refusal; the cells are formed once all files are
+-- read
 abbrev pub certificate_read : JobRequest → Files → Result Certificate Refusal
 certificate_read asked files = do
   problem ← problem_read asked.problem files
@@ -51,4 +53,4 @@ pub record IsShown (asked : JobRequest) (files : Files) : Type 0 where
   pub certificate : Certificate
   pub is_read : certificate_read asked files ≡ Ok certificate
   pub proved : IsProved
-      (job_problem certificate.cells certificate.grids certificate.job) certificate.job
+      (job_problem certificate.cells certificate.grids.families certificate.job) certificate.job

@@ -13,13 +13,13 @@ use Rattle.ldp_cli.specs.Certificate.{JobRequest, certificate_read, HaveSameFile
 abbrev pub check_answer : JobRequest → Files → Result Answer Refusal
 check_answer asked files = do
   read ← certificate_read asked files
-  Ok (check_over read.cells read.grids read.names read.job)
+  Ok (check_over read.cells read.grids.families read.names read.job)
 
 -- the text of a job that is accepted, with the hashes of the three files
 abbrev pub upgrade_answer : JobRequest → Files → Result Answer Refusal
 upgrade_answer asked files = do
   read ← certificate_read asked files
-  Ok (upgrade_over read.cells read.grids read.names read.job)
+  Ok (upgrade_over read.cells read.grids.families read.names read.job)
 
 -- the text of an accepted job with its files named: as a job over the same three files, whatever
 -- the names of the files are, it is accepted, and upgraded to itself

@@ -31,15 +31,16 @@ design_request (zone ∷ heights ∷ grids ∷ options) =
     }) (limits_in options)
 design_request _ = None
 
+-- the files to read, in this order: zone, heights, design grids
 abbrev pub design_files : DesignRequest → List Asked
 design_files asked = problem_files asked.problem []
 
--- the certificate of the best design
+-- what `design` answers over the files by their names, or its refusal
 abbrev pub design_answer : DesignRequest → Files → Result Answer Refusal
 design_answer asked files = do
   problem ← problem_read asked.problem files
   list ← cells_read problem.zone problem.heights
-  design_over list problem.grids problem.names asked.limits.budget
+  design_over list problem.grids.families problem.names asked.limits.budget
       (option_map unsigned_abs asked.limits.tolerance)
 
 -- the printed text, taken as a job over the same three files, whatever the names of the files are,

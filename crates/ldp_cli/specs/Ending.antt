@@ -3,7 +3,7 @@
 use Rattle.std.specs.Prelude.{◌≡◌, ◌⊎◌, ℕ, ◌≤◌, Bool, List, [], ◌∷◌, ◌++◌, length, codes}
 use Rattle.std.specs.Prelude.{Option, Some, None, IfSome, Result, Ok, Err, if◌then◌else◌}
 use Rattle.ldp_io.specs.Shelf.{Files}
-use Rattle.ldp_message.specs.Role.{role_name}
+use Rattle.ldp_message.specs.FileRole.{role_name}
 use Rattle.ldp_message.specs.Refusal.{refusal_status, refusal_text}
 use Rattle.ldp_answer.specs.declared.answer.Answer.{Answer}
 use Rattle.ldp_message.specs.declared.refusal.Refusal.{Refusal}
@@ -12,6 +12,7 @@ use Rattle.ldp_cli.specs.Files.{Asked, HasFailed}
 use Rattle.ldp_cli.specs.declared.ending.Ending.{Ending}
 use Rattle.ldp_cli.specs.declared.ending.Ending.TheVariants as endings
 
+-- a number is one of a list; false for the empty list
 abbrev pub IsOneOf : ℕ → List ℕ → Type 0
 IsOneOf n [] = ⊥
 IsOneOf n (first ∷ more) = (n ≡ first) ⊎ IsOneOf n more
@@ -20,6 +21,8 @@ IsOneOf n (first ∷ more) = (n ≡ first) ⊎ IsOneOf n more
 abbrev pub answer_status : Bool → ℕ
 answer_status rejected = if rejected then 1 else 0
 
+-- the exit status: 0 or 1 for a printed answer, 2 for wrong words, 3 for a file that cannot be
+-- read, 4 to 7 and 10 for a refusal, 8 for output that cannot be written, 9 for want of memory
 abbrev pub ending_status : Ending → ℕ
 ending_status endings.Usage = 2
 ending_status (endings.Printed rejected) = answer_status rejected
@@ -37,6 +40,7 @@ ending_text (endings.Unread place role) = codes "cannot read " ++ role_name role
 ending_text endings.Unwritten = codes "cannot write"
 ending_text endings.Memory = codes "out of memory"
 
+-- the line on the error output, with its line feed
 abbrev pub ending_line : Ending → List ℕ
 ending_line ending = ending_text ending ++ codes "\n"
 

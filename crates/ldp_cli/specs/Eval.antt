@@ -5,7 +5,7 @@ use Rattle.ldp_io.specs.Shelf.{Files}
 use Rattle.ldp_quantity.specs.Results.{◌>>=◌}
 use Rattle.ldp_answer.specs.Central.{CentralDesign, central_of}
 use Rattle.ldp_answer.specs.Eval.{eval_over}
-use Rattle.ldp_message.specs.declared.role.Role.TheVariants as roles
+use Rattle.ldp_message.specs.declared.file_role.FileRole.TheVariants as roles
 use Rattle.ldp_answer.specs.declared.answer.Answer.{Answer}
 use Rattle.ldp_message.specs.declared.refusal.Refusal.{Refusal}
 use Rattle.ldp_cli.specs.Readings.{heights_read}
@@ -23,9 +23,11 @@ eval_request (heights ∷ longitude ∷ scale ∷ []) =
     (result_ok (central_of longitude scale))
 eval_request _ = None
 
+-- the file to read: the heights
 abbrev pub eval_files : EvalRequest → List Asked
 eval_files asked = record { role = roles.Heights; name = asked.heights } ∷ []
 
+-- what `eval` answers over the files by their names, or its refusal
 abbrev pub eval_answer : EvalRequest → Files → Result Answer Refusal
 eval_answer asked files = do
   grid ← heights_read (files asked.heights)

@@ -3,7 +3,7 @@ use Rattle.std.specs.Prelude.{◌≡◌, ℕ, ◌+◌, Bool, IsTrue, List, [], �
 use Rattle.std.specs.Prelude.{Option, Some, option_map, IfSome, slice_get, Result, Ok, Err}
 use Rattle.ldp_io.specs.Count.{Rose}
 use Rattle.ldp_io.specs.Shelf.{Files}
-use Rattle.ldp_message.specs.declared.role.Role.{Role}
+use Rattle.ldp_message.specs.declared.file_role.FileRole.{FileRole}
 use Rattle.ldp_message.specs.declared.refusal.Refusal.{Refusal}
 use Rattle.ldp_cli.specs.Readings.{is_accepted}
 use Rattle.ldp_cli.specs.declared.stop.Stop.{Stop}
@@ -11,7 +11,7 @@ use Rattle.ldp_cli.specs.declared.stop.Stop.TheVariants as stops
 
 -- a file of a command: what it is for, and its name
 pub record Asked : Type 0 where
-  pub role : Role
+  pub role : FileRole
   pub name : List ℕ
 
 -- the shelf serves each file at its place, the first of them at this one
@@ -28,7 +28,7 @@ AreAccepted files (file ∷ more) =
 
 -- A call for the file at this place has failed, and where the shelf tells its files, those before
 -- it are accepted.
-pub record HasFailed (place : ℕ) (role : Role) (asked : List Asked) (before now : ℕ → ℕ)
+pub record HasFailed (place : ℕ) (role : FileRole) (asked : List Asked) (before now : ℕ → ℕ)
     (files : Option Files) : Type 0 where
   pub named : option_map (λ file. file.role) (slice_get asked place) ≡ Some role
   pub rose : Rose (before place) (now place)
@@ -43,7 +43,7 @@ Gives (Err (stops.Unread place role)) told = Unit {0}
 Gives (Err stops.Memory) told = Unit {0}
 
 -- Where the stop is that a file cannot be read, it is this one, and a call for it has failed.
-abbrev pub StopsAt : ℕ → Role → Stop → (ℕ → ℕ) → (ℕ → ℕ) → Type 0
+abbrev pub StopsAt : ℕ → FileRole → Stop → (ℕ → ℕ) → (ℕ → ℕ) → Type 0
 StopsAt place role (stops.Refused refusal) before now = Unit {0}
 StopsAt place role (stops.Unread at what) before now =
     (at ≡ place) × (what ≡ role) × Rose (before place) (now place)

@@ -1,32 +1,36 @@
 -- What the words after the files say of a search. Own choice of this project.
-use Rattle.std.specs.Prelude.{ℕ, ◌≤◌, ◌^◌, ℤ, pos, ◌&&◌, List, [], ◌∷◌, codes, bytes_eq}
+use Rattle.std.specs.Prelude.{ℕ, ◌≤◌, ℤ, pos, ◌&&◌, List, [], ◌∷◌, codes, bytes_eq}
 use Rattle.std.specs.Prelude.{Option, None, Some, IfSome, option_map, option_and_then}
 use Rattle.std.specs.Prelude.{if◌then◌else◌}
 use Rattle.std.specs.Result.{result_ok}
 use Rattle.ldp_spelling.specs.Numbers.{whole_in}
+use Rattle.ldp_design.specs.Limits.{most_tolerance}
 use Rattle.ldp_quantity.specs.Between.{IsBetween, number_from_to}
 use Rattle.ldp_cli.specs.declared.limits.Limits.{Limits}
 
--- where no word gives a budget, in nodes
+-- the budget, in nodes, if no word gives one
 abbrev pub usual_budget : ℕ
 usual_budget = 200_000
 
--- from one node to a million, in digits alone and without a leading zero
+-- a budget from one node to a million, in digits alone and without a leading zero
 abbrev pub budget_in : List ℕ → Option ℕ
 budget_in word = whole_in 1 1_000_000 word
 
--- from 0 to a million parts per million, in units of 10^-9 ppm, rounded
+-- a tolerance from 0 to a million parts per million, in units of 10^-9 ppm, rounded
 abbrev pub share_in : List ℕ → Option ℤ
-share_in word = result_ok (number_from_to 9 (pos 0) (pos (10 ^ 15)) word)
+share_in word = result_ok (number_from_to 9 (pos 0) (pos most_tolerance) word)
 
+-- the limits of a search with this budget and no share
 abbrev pub budget_alone : List ℕ → Option Limits
 budget_alone word =
     option_map (λ budget. record { budget = budget; tolerance = None }) (budget_in word)
 
+-- the limits of a search with this share and the usual budget
 abbrev pub share_alone : List ℕ → Option Limits
 share_alone word =
     option_map (λ share. record { budget = usual_budget; tolerance = Some share }) (share_in word)
 
+-- the limits of a search with both; None if one of the words is no such number
 abbrev pub budget_and_share : List ℕ → List ℕ → Option Limits
 budget_and_share nodes ppm =
     option_and_then (λ budget.
@@ -50,4 +54,4 @@ limits_in _ = None
 pub record AreLimits (limits : Limits) : Type 0 where
   pub some : 1 ≤ limits.budget
   pub few : limits.budget ≤ 1_000_000
-  pub tolerance : IfSome limits.tolerance (IsBetween (pos 0) (pos (10 ^ 15)))
+  pub tolerance : IfSome limits.tolerance (IsBetween (pos 0) (pos most_tolerance))

@@ -3,7 +3,7 @@
 use Rattle.std.specs.Prelude.{ℕ, List, ◌∷◌, Result, Ok}
 use Rattle.ldp_quantity.specs.Results.{◌>>=◌}
 use Rattle.ldp_io.specs.Shelf.{Files}
-use Rattle.ldp_message.specs.declared.role.Role.TheVariants as roles
+use Rattle.ldp_message.specs.declared.file_role.FileRole.TheVariants as roles
 use Rattle.ldp_message.specs.declared.refusal.Refusal.{Refusal}
 use Rattle.ldp_cli.specs.Readings.{zone_read, height_file_read, grids_read}
 use Rattle.ldp_cli.specs.Files.{Asked}
@@ -35,6 +35,7 @@ files_read zone heights grids = record {
   names = record { zone = zone.hash; heights = heights.hash; grids = grids.hash };
 }
 
+-- the three files read in this order; the first refusal is answered
 abbrev pub problem_read : ProblemRequest → Files → Result ProblemFiles Refusal
 problem_read asked files = do
   zone ← zone_read (files asked.zone)

@@ -10,8 +10,8 @@ use Rattle.ldp_grids.specs.Reading.{grids_of}
 use Rattle.ldp_job.specs.Reading.{job}
 use Rattle.ldp_job.specs.declared.job.Job.{Job}
 use Rattle.ldp_message.specs.Refusal.{or_refused}
-use Rattle.ldp_message.specs.declared.role.Role.{Role}
-use Rattle.ldp_message.specs.declared.role.Role.TheVariants as roles
+use Rattle.ldp_message.specs.declared.file_role.FileRole.{FileRole}
+use Rattle.ldp_message.specs.declared.file_role.FileRole.TheVariants as roles
 use Rattle.ldp_message.specs.declared.refusal.Refusal.{Refusal}
 use Rattle.ldp_message.specs.declared.refusal.Refusal.TheVariants as refusals
 use Rattle.ldp_cli.specs.declared.inputs.ZoneFile.{ZoneFile}
@@ -19,7 +19,7 @@ use Rattle.ldp_cli.specs.declared.inputs.HeightFile.{HeightFile}
 use Rattle.ldp_cli.specs.declared.inputs.GridFile.{GridFile}
 
 -- a text of at most 128,000,000 bytes
-abbrev pub short_text : Role → List ℕ → Result (List ℕ) Refusal
+abbrev pub short_text : FileRole → List ℕ → Result (List ℕ) Refusal
 short_text role text =
     if nat_le (length text) 128_000_000 then Ok text else Err (refusals.TooLong role)
 
@@ -55,8 +55,8 @@ job_read file = do
   text ← short_text roles.Job file
   or_refused refusals.RefusedJob (job text)
 
--- is a file accepted as what it is for?
-abbrev pub is_accepted : Role → List ℕ → Bool
+-- whether a file can be read as what it is for
+abbrev pub is_accepted : FileRole → List ℕ → Bool
 is_accepted roles.Zone file = is_ok (zone_read file)
 is_accepted roles.Heights file = is_ok (heights_read file)
 is_accepted roles.Grids file = is_ok (grids_read file)

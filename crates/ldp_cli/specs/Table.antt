@@ -37,10 +37,12 @@ table_request (zone ∷ heights ∷ grids ∷ job ∷ options) =
     (form_of options)
 table_request _ = None
 
+-- the files to read, in this order: zone, heights, design grids, job
 abbrev pub table_files : TableRequest → List Asked
 table_files asked = job_files asked.job
 
+-- what `table` answers over the files by their names, or its refusal
 abbrev pub table_answer : TableRequest → Files → Result Answer Refusal
 table_answer asked files = do
   read ← certificate_read asked.job files
-  Ok (table_over asked.form read.cells read.grids read.names read.job)
+  Ok (table_over asked.form read.cells read.grids.families read.names read.job)

@@ -1,7 +1,7 @@
 ghost use Rattle.std.specs.Prelude.{◌≡◌, ◌≤◌, [], length};
 ghost use Rattle.ldp_cli.specs.Ending.{ending_status, ending_text, ending_line};
 
-use ldp_message::{Line, Refusal, Role};
+use ldp_message::{FileRole, Line, Refusal};
 
 /// How a run ends.
 #[derive(Clone, Copy, Debug, PartialEq, Eq)]
@@ -12,7 +12,7 @@ pub enum Ending {
     Printed { rejected: bool },
     Refused(Refusal),
     /// A file could not be read: its place among the files of the words, from 0.
-    Unread { place: u8, role: Role },
+    Unread { place: u8, role: FileRole },
     /// The answer could not be written in full.
     Unwritten,
     Memory,

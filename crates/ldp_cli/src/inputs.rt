@@ -13,7 +13,7 @@ use ldp_grids::{GridFault, read_grids};
 use ldp_heights::{HeightFault, HeightReader, Heights};
 use ldp_io::Shelf;
 use ldp_job::{Job, JobFault, read_job};
-use ldp_message::{Refusal, Role};
+use ldp_message::{FileRole, Refusal};
 use ldp_zone::{Zone, ZoneFault, read_zone};
 use std::alloc::Global;
 
@@ -50,12 +50,12 @@ pub fn take_zone<H: Shelf>(
     ensures told { IfSome (H.files shelf.old) (λ files.
         Gives result (zone_read (files name.now))) }
     ensures stops { IfErr result (λ stop.
-        StopsAt place Role.Zone stop (H.faults shelf.old) (H.faults shelf.new)) }
+        StopsAt place FileRole.Zone stop (H.faults shelf.old) (H.faults shelf.new)) }
     ensures files { H.files shelf.new ≡ H.files shelf.old }
     ensures serves { H.serves shelf.new ≡ H.serves shelf.old }
     ensures later { Later (H.faults shelf.old) (H.faults shelf.new) }
 {
-    let file = take_hashed(alloc, shelf, place, Role::Zone, name)?;
+    let file = take_hashed(alloc, shelf, place, FileRole::Zone, name)?;
     match read_zone(alloc, &file.of) {
         Ok(zone) => Ok(ZoneFile {
             zone,
@@ -78,13 +78,13 @@ pub fn take_heights<H: Shelf>(
     ensures told { IfSome (H.files shelf.old) (λ files.
         Gives result (heights_read (files name.now))) }
     ensures stops { IfErr result (λ stop.
-        StopsAt place Role.Heights stop (H.faults shelf.old) (H.faults shelf.new)) }
+        StopsAt place FileRole.Heights stop (H.faults shelf.old) (H.faults shelf.new)) }
     ensures files { H.files shelf.new ≡ H.files shelf.old }
     ensures serves { H.serves shelf.new ≡ H.serves shelf.old }
     ensures later { Later (H.faults shelf.old) (H.faults shelf.new) }
 {
     let mut reader = HeightReader::new(alloc);
-    take_into(shelf, place, Role::Heights, name, &mut reader)?;
+    take_into(shelf, place, FileRole::Heights, name, &mut reader)?;
     match reader.finish() {
         Ok(heights) => Ok(heights),
         Err(HeightFault::Memory) => Err(Stop::Memory),
@@ -104,15 +104,15 @@ pub fn take_height_file<H: Shelf>(
     ensures told { IfSome (H.files shelf.old) (λ files.
         Gives result (height_file_read (files name.now))) }
     ensures accepted { OnOk result (IfSome (H.files shelf.old) (λ files.
-        IsTrue (is_accepted Role.Heights (files name.now)))) }
+        IsTrue (is_accepted FileRole.Heights (files name.now)))) }
     ensures stops { IfErr result (λ stop.
-        StopsAt place Role.Heights stop (H.faults shelf.old) (H.faults shelf.new)) }
+        StopsAt place FileRole.Heights stop (H.faults shelf.old) (H.faults shelf.new)) }
     ensures files { H.files shelf.new ≡ H.files shelf.old }
     ensures serves { H.serves shelf.new ≡ H.serves shelf.old }
     ensures later { Later (H.faults shelf.old) (H.faults shelf.new) }
 {
     let mut reader = Hashed::over(HeightReader::new(alloc));
-    take_into(shelf, place, Role::Heights, name, &mut reader)?;
+    take_into(shelf, place, FileRole::Heights, name, &mut reader)?;
     let Digested { of, hash } = reader.finish();
     match of.finish() {
         Ok(heights) => Ok(HeightFile { heights, hash }),
@@ -133,12 +133,12 @@ pub fn take_grids<H: Shelf>(
     ensures told { IfSome (H.files shelf.old) (λ files.
         Gives result (grids_read (files name.now))) }
     ensures stops { IfErr result (λ stop.
-        StopsAt place Role.Grids stop (H.faults shelf.old) (H.faults shelf.new)) }
+        StopsAt place FileRole.Grids stop (H.faults shelf.old) (H.faults shelf.new)) }
     ensures files { H.files shelf.new ≡ H.files shelf.old }
     ensures serves { H.serves shelf.new ≡ H.serves shelf.old }
     ensures later { Later (H.faults shelf.old) (H.faults shelf.new) }
 {
-    let file = take_hashed(alloc, shelf, place, Role::Grids, name)?;
+    let file = take_hashed(alloc, shelf, place, FileRole::Grids, name)?;
     match read_grids(alloc, &file.of) {
         Ok(grids) => Ok(GridFile {
             grids,
@@ -157,12 +157,12 @@ pub fn take_job<H: Shelf>(alloc: Global, shelf: &mut H, place: u8, name: &str) -
         Gives result (job_read (files name.now))) }
     ensures valid { IfOk result IsJob }
     ensures stops { IfErr result (λ stop.
-        StopsAt place Role.Job stop (H.faults shelf.old) (H.faults shelf.new)) }
+        StopsAt place FileRole.Job stop (H.faults shelf.old) (H.faults shelf.new)) }
     ensures files { H.files shelf.new ≡ H.files shelf.old }
     ensures serves { H.serves shelf.new ≡ H.serves shelf.old }
     ensures later { Later (H.faults shelf.old) (H.faults shelf.new) }
 {
-    let text = take_bytes(alloc, shelf, place, Role::Job, name)?;
+    let text = take_bytes(alloc, shelf, place, FileRole::Job, name)?;
     match read_job(alloc, &text) {
         Ok(job) => Ok(job),
         Err(JobFault::Memory) => Err(Stop::Memory),

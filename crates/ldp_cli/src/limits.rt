@@ -1,17 +1,16 @@
-ghost use Rattle.std.specs.Prelude.{◌≡◌, ◌≤◌, ◌^◌, pos, map, string_bytes, IfSome, None, codes};
+ghost use Rattle.std.specs.Prelude.{◌≡◌, ◌≤◌, pos, map, string_bytes, IfSome, None, codes};
 ghost use Rattle.std.specs.Prelude.{bytes_eq, if◌then◌else◌};
+ghost use Rattle.ldp_design.specs.Limits.{most_tolerance};
 ghost use Rattle.ldp_quantity.specs.Between.{IsBetween};
 ghost use Rattle.ldp_cli.specs.Limits.{limits_in, budget_in, share_in, budget_alone, share_alone};
 ghost use Rattle.ldp_cli.specs.Limits.{budget_and_share, AreLimits};
 
+use ldp_design::MOST_TOLERANCE;
 use ldp_quantity::read_between;
 use ldp_spelling::read_whole;
 
 /// The nodes that a search may look at where no word says how many.
 const USUAL_BUDGET: u32 = 200_000;
-
-/// A million parts per million, in units of 10^-9 ppm.
-const WHOLE: i128 = 1_000_000_000_000_000;
 
 /// How many nodes a search may look at, and the distortion beyond which cells are counted, in units
 /// of 10^-9 ppm.
@@ -86,7 +85,7 @@ fn budget(word: &[u8]) -> Option<u32>
 
 fn share(word: &[u8]) -> Option<i128>
     ensures value { result ≡ share_in word.now }
-    ensures range { IfSome result (IsBetween (pos 0) (pos (10 ^ 15))) }
+    ensures range { IfSome result (IsBetween (pos 0) (pos most_tolerance)) }
 {
-    read_between(word, 9, 0, WHOLE).ok()
+    read_between(word, 9, 0, i128::from(MOST_TOLERANCE)).ok()
 }

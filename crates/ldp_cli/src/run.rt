@@ -13,7 +13,7 @@ use crate::stop::Stop;
 use crate::write_all::{End, write_all};
 use ldp_answer::Answer;
 use ldp_io::{Shelf, Sink};
-use ldp_message::Role;
+use ldp_message::FileRole;
 use std::alloc::Global;
 
 /// Carries out the command of the words after the program's name, and answers its status.
@@ -28,7 +28,7 @@ pub fn run_words<H: Shelf, O: Sink, E: Sink>(
     // Whatever the shelf and the sinks tell.
     ensures range { result ≤ 10 }
     ensures usage { (result ≡ 2) ↔ (request (map string_bytes words.now) ≡ None) }
-    ensures unread { result ≡ 3 → (place : ℕ) × (role : Role) × HasFailed place role
+    ensures unread { result ≡ 3 → (place : ℕ) × (role : FileRole) × HasFailed place role
         (asked_in (request (map string_bytes words.now)))
         (H.faults shelf.old) (H.faults shelf.new) (H.files shelf.old) }
     ensures unwritten { result ≡ 8 → Rose (O.faults out.old) (O.faults out.new) }

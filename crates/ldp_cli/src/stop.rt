@@ -1,5 +1,5 @@
 use ldp_answer::WorkFault;
-use ldp_message::{Refusal, Role};
+use ldp_message::{FileRole, Refusal};
 use std::alloc::AllocError;
 
 /// Why a command that takes files stops before it has an answer.
@@ -7,7 +7,7 @@ use std::alloc::AllocError;
 pub enum Stop {
     Refused(Refusal),
     /// A file could not be read: its place among the files of the words, from 0.
-    Unread { place: u8, role: Role },
+    Unread { place: u8, role: FileRole },
     Memory,
 }
 

@@ -9,7 +9,7 @@ use crate::pieces::Pieces;
 use crate::stop::Stop;
 use crate::take_file::{FileFault, take_file};
 use ldp_io::Shelf;
-use ldp_message::{Refusal, Role};
+use ldp_message::{FileRole, Refusal};
 use std::alloc::Global;
 
 /// The most bytes of a file.
@@ -19,7 +19,7 @@ const MOST_BYTES: usize = 128_000_000;
 pub fn take_into<H: Shelf, P: Pieces>(
     shelf: &mut H,
     place: u8,
-    role: Role,
+    role: FileRole,
     name: &str,
     into: &mut P,
 ) -> Result<(), Stop>
@@ -51,7 +51,7 @@ pub fn take_bytes<H: Shelf>(
     alloc: Global,
     shelf: &mut H,
     place: u8,
-    role: Role,
+    role: FileRole,
     name: &str,
 ) -> Result<Vec<u8>, Stop>
     requires place { place < 4 }
@@ -76,7 +76,7 @@ pub fn take_hashed<H: Shelf>(
     alloc: Global,
     shelf: &mut H,
     place: u8,
-    role: Role,
+    role: FileRole,
     name: &str,
 ) -> Result<Digested<Vec<u8>>, Stop>
     requires place { place < 4 }

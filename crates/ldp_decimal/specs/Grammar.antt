@@ -31,7 +31,7 @@ value_after n (d ∷ ds) = value_after (n * 10 + (d - 48)) ds
 abbrev pub value : List ℕ → ℕ
 value digits = value_after 0 digits
 
--- an optional sign: whether it is a minus, and what follows it
+-- an optional sign: true if it is a minus, and what follows it
 abbrev pub signed : List ℕ → Bool × List ℕ
 signed [] = (false, [])
 signed (b ∷ bs) = if b == 45 then (true, bs) else if b == 43 then (false, bs) else (false, b ∷ bs)

@@ -10,6 +10,7 @@ use Rattle.ldp_decimal.specs.declared.fault.NumFault.TheVariants.{NotANumber, To
 unfoldable pub decimal_value : ℕ → List ℕ → Option ℤ
 decimal_value places text = option_map (λ p. nearest places (fraction_of p)) (parts text)
 
+-- whether a whole number is negative; 0 is not
 abbrev pub is_below_zero : ℤ → Bool
 is_below_zero (pos n) = false
 is_below_zero (negsuc n) = true

@@ -32,7 +32,7 @@ abbrev pub IsAtMost : ℕ → ℕ → Option ℕ → Type 0
 IsAtMost limit n None = limit < n
 IsAtMost limit n (Some m) = (m ≡ n) × (n ≤ limit)
 
--- does the first of the digits that fall away round up?
+-- whether the first of the digits that fall away is 5 or more
 abbrev pub rounds_up : List ℕ → Bool
 rounds_up [] = false
 rounds_up (d ∷ ds) = nat_le 53 d

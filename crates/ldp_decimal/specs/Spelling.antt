@@ -5,14 +5,17 @@ use Rattle.std.specs.Prelude.{◌≡◌, ℕ, ◌+◌, ◌≤◌, Bool, true, fa
 use Rattle.std.specs.Prelude.{Option, Some, None, unwrap_or, if◌then◌else◌}
 use Rattle.ldp_decimal.specs.Grammar.{AreDigits, Parts, value}
 
+-- what stands in front of the digits: nothing, `+` or `-`
 pub data Sign : Type 0 where
   unsigned plus minus : Sign
 
+-- the byte of a sign, or nothing
 abbrev pub sign_text : Sign → List ℕ
 sign_text unsigned = []
 sign_text plus = 43 ∷ []
 sign_text minus = 45 ∷ []
 
+-- whether the number, or the power of ten, is negated
 abbrev pub is_minus : Sign → Bool
 is_minus unsigned = false
 is_minus plus = false
@@ -31,6 +34,7 @@ pub record Spelling : Type 0 where
   pub further : Option (List ℕ)
   pub exponent : Option Exponent
 
+-- the point and the digits behind it; nothing if there is no point
 abbrev pub point_text : Option (List ℕ) → List ℕ
 point_text None = []
 point_text (Some ds) = 46 ∷ ds
@@ -40,6 +44,7 @@ abbrev pub letter : Bool → ℕ
 letter true = 69
 letter false = 101
 
+-- the letter, the sign and the digits of an exponent; nothing if there is none
 abbrev pub exponent_text : Option Exponent → List ℕ
 exponent_text None = []
 exponent_text (Some e) = letter e.capital ∷ (sign_text e.sign ++ e.power)
@@ -62,6 +67,7 @@ pub record IsSpelling (s : Spelling) : Type 0 where
   pub exponent : IsExponent s.exponent
   pub short : length (spelling_text s) ≤ 64
 
+-- the powers of ten by which an exponent multiplies and divides; at least one of them is 0
 abbrev pub powers : Option Exponent → ℕ × ℕ
 powers None = (0, 0)
 powers (Some e) = if is_minus e.sign then (0, value e.power) else (value e.power, 0)

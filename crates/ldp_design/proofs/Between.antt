@@ -13,7 +13,8 @@ use Rattle.ldp_design.specs.Families.{IsValid, AreGrids, family_of, value_at}
 use Rattle.ldp_design.specs.Designs.{IsDesignOf}
 use Rattle.ldp_design.specs.Boxes.{LiesIn, IsBoxOf, IsIn, first_of, last_of}
 use Rattle.ldp_design.specs.Inputs.{IsAngleAxis, IsNumberAxis, angle_at, inputs_at, design_inputs}
-use Rattle.ldp_design.specs.Inputs.{box_inputs, AreNumbers, AreOrdered, LieBetween, HaveBetween}
+use Rattle.ldp_design.specs.Inputs.{box_inputs}
+use Rattle.ldp_design.specs.Laws.{AreNumbers, AreOrdered, LieBetween, HaveBetween}
 use Rattle.ldp_design.proofs.Axes.{value-le, value-within, angle-le, radians-le}
 use Rattle.ldp_design.proofs.Valid.{HasAxes, has_axes, scale_number}
 use Rattle.ldp_design.proofs.Wholes.{valid_family, first_within, last_within}

@@ -11,8 +11,9 @@ use Rattle.ldp_design.specs.declared.design_box.Span.{Span}
 use Rattle.ldp_design.specs.declared.design_box.DesignBox.{DesignBox}
 use Rattle.ldp_design.specs.Families.{family_of}
 use Rattle.ldp_design.specs.Designs.{index_of, axis_of}
-use Rattle.ldp_design.specs.Boxes.{span_of, with_span, size, width, span_width, IsIn, LiesIn}
-use Rattle.ldp_design.specs.Splits.{IsCut, AreParts, parts_at}
+use Rattle.ldp_design.specs.Boxes.{span_of, with_span, size, span_width, IsIn, LiesIn}
+use Rattle.ldp_design.specs.Laws.{width, AreParts}
+use Rattle.ldp_design.specs.Splits.{IsCut, parts_at}
 
 -- a changed span is the new one, and the others stay
 with_span-cases : (x y : AxisName) (s : Span) (b : DesignBox)

@@ -9,6 +9,7 @@ use Rattle.ldp_design.specs.declared.family.Family.{Family}
 use Rattle.ldp_design.specs.declared.design_box.DesignBox.{DesignBox}
 use Rattle.ldp_design.specs.Families.{IsValid, AreGrids}
 use Rattle.ldp_design.specs.Boxes.{span_of, is_single, IsBoxOf, LiesIn, IsSingle}
+use Rattle.ldp_design.specs.Laws.{SinglesAreTested}
 use Rattle.ldp_design.specs.Measures.{widest}
 use Rattle.ldp_design.specs.Splits.{IsCut, middle, family_cut, cut_for}
 use Rattle.ldp_design.proofs.Valid.{HasAxes, has_axes}
@@ -43,6 +44,9 @@ pub single-is_single : (b : DesignBox) → IsSingle b → is_single b ≡ true
 single-is_single b s =
     one_indices b.lat.lo b.lat.hi b.lon.lo b.lon.hi b.azimuth.lo b.azimuth.hi b.scale.lo b.scale.hi
     (s.one Lat) (s.one Lon) (s.one Azimuth) (s.one Scale)
+
+pub singles_are_tested : SinglesAreTested
+singles_are_tested b = (is_single-is b, single-is_single b)
 
 pub ruleset singles = (is_single-is, single-is_single)
 

@@ -1,5 +1,6 @@
 -- Families by number, the whole of a family, and the designs of a box.
-use Rattle.std.proofs.Common.{◌≡◌, ℕ, zero, suc, ◌<◌, ◌≤◌, Bool, false, length, List, Option, Some}
+use Rattle.std.proofs.Common.{◌≡◌, ℕ, zero, suc, ◌<◌, ◌≤◌, Bool, true, false, length, List, Option}
+use Rattle.std.proofs.Common.{Some}
 use Rattle.std.proofs.Common.{None, refl, sym, ◌∙◌, ap, subst, arith}
 use Rattle.std.specs.Prelude.{option_map, IsTrue, ◌↔◌}
 use Rattle.std.proofs.lemmas.Option.{slice_get_within, get_or_from_slice_get}
@@ -10,8 +11,12 @@ use Rattle.ldp_design.specs.declared.family.Family.{Family}
 use Rattle.ldp_design.specs.declared.design.Design.{Design}
 use Rattle.ldp_design.specs.declared.design_box.DesignBox.{DesignBox}
 use Rattle.ldp_design.specs.Families.{IsValid, AreGrids, family_of}
-use Rattle.ldp_design.specs.Designs.{axis_of, index_of, IsDesignOf, IsAdmitted}
-use Rattle.ldp_design.specs.Boxes.{span_of, IsIn, IsBoxOf, LiesIn, IsSingle, IsWhole, whole_box}
+use Rattle.ldp_design.specs.Designs.{axis_of, index_of, IsDesignOf, IsAdmitted, has_design}
+use Rattle.ldp_design.specs.Designs.{is_design_of, is_admitted}
+use Rattle.ldp_design.specs.Laws.{AdmittedAreTested, FirstsAreIn, FirstsAreAdmitted}
+use Rattle.std.proofs.lemmas.Bool.Decides.{nat_tests}
+use Rattle.ldp_design.specs.Boxes.{span_of, IsIn, IsBoxOf, LiesIn, IsSingle, whole_box}
+use Rattle.ldp_design.specs.Laws.{IsWhole}
 use Rattle.ldp_design.specs.Boxes.{whole_of, first_of, last_of}
 use Rattle.ldp_design.proofs.Valid.{HasAxes, has_axes}
 
@@ -139,6 +144,39 @@ pub admitted_by : (families : List Family) (d : Design) (f : Family) (t : Bool)
 admitted_by families d f t e h =
     (λ u. record { family = f; found = e; within = h.0 u }, λ a. h.1 (design_of families d f a e))
 
+pub design_is : (f : Family) (d : Design) → has_design f d ≡ true → IsDesignOf f d
+design_is f d e = record {
+  lat = grind (arith, nat_tests);
+  lon = grind (arith, nat_tests);
+  azimuth = grind (arith, nat_tests);
+  scale = grind (arith, nat_tests);
+}
+
+pub has_it : (f : Family) (d : Design) → IsDesignOf f d → has_design f d ≡ true
+has_it f d h = grind (arith, nat_tests, h.lat, h.lon, h.azimuth, h.scale)
+
+admitted_of : (families : List Family) (d : Design) (f : Option Family)
+    → family_of families d.family ≡ f
+    → is_design_of f d ≡ true → IsAdmitted families d
+admitted_of families d None e h = absurd cc
+admitted_of families d (Some f) e h = record { family = f; found = e; within = design_is f d h }
+
+pub admitted_are_tested : AdmittedAreTested
+admitted_are_tested families d = (
+  λ h. admitted_of families d (family_of families d.family) refl h,
+  λ a. rw a.found (has_it a.family d a.within),
+)
+
+-- the test finds no family that has no number
+pub no_family : (families : List Family) (d : Design)
+    → (1 ≤ d.family → d.family ≤ length families → ⊥) → false ≡ is_admitted families d
+no_family families d h = no_number (family_of families d.family) refl
+  where
+    no_number : (f : Option Family) → family_of families d.family ≡ f → false ≡ is_design_of f d
+    no_number None e = refl
+    no_number (Some f) e =
+        let n = known_number families d.family f e in absurd (h n.0 n.1)
+
 -- the first and the last design of a box lie in it
 pub first_in : (f : Family) (b : DesignBox) → IsBoxOf f b → IsIn (first_of b) b
 first_in f b h = record { family = refl; low = low; high = high }
@@ -169,6 +207,15 @@ last_in f b h = record { family = refl; low = low; high = high }
     high Lon = omega arith
     high Azimuth = omega arith
     high Scale = omega arith
+
+pub firsts_are_in : FirstsAreIn
+firsts_are_in families b h = first_in h.family b h.within
+
+pub firsts_are_admitted : FirstsAreAdmitted
+firsts_are_admitted families b h =
+    boxes_are_admitted families b (first_of b) h (firsts_are_in families b h)
+
+pub ruleset firsts = (firsts_are_in, firsts_are_admitted)
 
 pub first_within : (f : Family) (b : DesignBox) → IsBoxOf f b → IsDesignOf f (first_of b)
 first_within f b h = design_within f b (first_of b) h (first_in f b h)

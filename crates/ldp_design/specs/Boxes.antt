@@ -1,6 +1,6 @@
 -- Boxes: the designs of one family whose index lies in the span of each axis.
-use Rattle.std.specs.Prelude.{◌≡◌, ℕ, suc, ◌+◌, ◌-◌, ◌*◌, ◌<◌, ◌≤◌, ◌==◌, ◌&&◌, Bool, List, Option}
-use Rattle.std.specs.Prelude.{Some, option_map, All, Any}
+use Rattle.std.specs.Prelude.{◌≡◌, ℕ, suc, ◌-◌, ◌*◌, ◌<◌, ◌≤◌, ◌==◌, ◌&&◌, Bool, List, Option}
+use Rattle.std.specs.Prelude.{Some, option_map}
 use Rattle.ldp_design.specs.declared.axis.AxisName.{AxisName}
 use Rattle.ldp_design.specs.declared.axis.AxisName.TheVariants.{Lat, Lon, Azimuth, Scale}
 use Rattle.ldp_design.specs.declared.family.Family.{Family}
@@ -8,8 +8,9 @@ use Rattle.ldp_design.specs.declared.design.Design.{Design}
 use Rattle.ldp_design.specs.declared.design_box.Span.{Span}
 use Rattle.ldp_design.specs.declared.design_box.DesignBox.{DesignBox}
 use Rattle.ldp_design.specs.Families.{family_of}
-use Rattle.ldp_design.specs.Designs.{axis_of, index_of, IsAdmitted}
+use Rattle.ldp_design.specs.Designs.{axis_of, index_of}
 
+-- the first and the last index of a box on this axis
 abbrev pub span_of : AxisName → DesignBox → Span
 span_of Lat b = b.lat
 span_of Lon b = b.lon
@@ -62,12 +63,13 @@ whole_of families number = option_map (whole_box number) (family_of families num
 pub record IsSingle (b : DesignBox) : Type 0 where
   pub one : (axis : AxisName) → (span_of axis b).lo ≡ (span_of axis b).hi
 
+-- the test whether a box has one design
 abbrev pub is_single : DesignBox → Bool
 is_single b =
     (b.lat.lo == b.lat.hi && b.lon.lo == b.lon.hi)
     && (b.azimuth.lo == b.azimuth.hi && b.scale.lo == b.scale.hi)
 
--- the design with the low index of each axis, and that with the high one
+-- the design with the low index of each axis
 abbrev pub first_of : DesignBox → Design
 first_of b = record {
   family = b.family;
@@ -77,6 +79,7 @@ first_of b = record {
   scale = b.scale.lo;
 }
 
+-- the design with the high index of each axis
 abbrev pub last_of : DesignBox → Design
 last_of b = record {
   family = b.family;
@@ -90,26 +93,8 @@ last_of b = record {
 abbrev pub span_width : Span → ℕ
 span_width span = span.hi - span.lo
 
--- how far a box is from a single: the sum of the widths of its spans
-abbrev pub width : DesignBox → ℕ
-width b = span_width b.lat + span_width b.lon + span_width b.azimuth + span_width b.scale
-
 -- the number of designs of a box
 unfoldable pub size : DesignBox → ℕ
 size b =
     suc (span_width b.lat) * suc (span_width b.lon) * suc (span_width b.azimuth)
     * suc (span_width b.scale)
-
--- the whole of a family: its designs are the admissible ones with its number
-pub record IsWhole (families : List Family) (number : ℕ) (b : DesignBox) : Type 0 where
-  pub lies : LiesIn families b
-  pub family : b.family ≡ number
-  pub holds : (d : Design) → IsAdmitted families d → d.family ≡ number → IsIn d b
-
--- a design lies in one of some boxes
-abbrev pub IsInSome : Design → List DesignBox → Type 0
-IsInSome d boxes = Any (IsIn d) boxes
-
--- all boxes lie in their families
-abbrev pub AllLieIn : List Family → List DesignBox → Type 0
-AllLieIn families boxes = All (LiesIn families) boxes

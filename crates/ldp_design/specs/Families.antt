@@ -7,11 +7,13 @@ use Rattle.ldp_design.specs.declared.axis.Axis.{Axis}
 use Rattle.ldp_design.specs.declared.family.Kind.{Kind}
 use Rattle.ldp_design.specs.declared.family.Kind.TheVariants.{Tm, Lambert, Hotine, Lambert2}
 use Rattle.ldp_design.specs.declared.family.Family.{Family}
+use Rattle.ldp_design.specs.Limits.{most_azimuth, most_families}
 
--- the value with this index
+-- the value with this index, counted from 0
 abbrev pub value_at : Axis → ℕ → ℤ
 value_at axis i = axis.from +ℤ (pos i *ℤ axis.step)
 
+-- the value with the greatest index
 abbrev pub last_value : Axis → ℤ
 last_value axis = value_at axis (axis.count - 1)
 
@@ -33,29 +35,33 @@ pub record IsOneValue (low high : ℤ) (axis : Axis) : Type 0 where
   pub range : IsAxis low high axis
   pub single : axis ≡ single_axis axis.from
 
+-- an axis of latitudes, from 80 degrees south to 80 degrees north
 abbrev pub IsLatitudeAxis : Axis → Type 0
 IsLatitudeAxis axis = IsAxis (neg_ℤ (degrees 80)) (degrees 80) axis
 
+-- an axis of longitudes, from 180 degrees west to 360 degrees east
 abbrev pub IsLongitudeAxis : Axis → Type 0
 IsLongitudeAxis axis = IsAxis (neg_ℤ (degrees 180)) (degrees 360) axis
 
+-- an axis of azimuths, from -85 to 85 degrees
 abbrev pub IsAzimuthAxis : Axis → Type 0
-IsAzimuthAxis axis = IsAxis (neg_ℤ (degrees 85)) (degrees 85) axis
+IsAzimuthAxis axis = IsAxis (neg_ℤ most_azimuth) most_azimuth axis
 
--- one half to 2
+-- an axis of scale factors, from one half to 2
 abbrev pub IsScaleAxis : Axis → Type 0
 IsScaleAxis axis = IsAxis (tenths 5) (tenths 20) axis
 
--- all latitudes are at least 1 degree north, or all at least 1 degree south
+-- an axis of latitudes, all of them at least 1 degree north, or all at least 1 degree south
 pub record IsParallelAxis (axis : Axis) : Type 0 where
   pub range : IsLatitudeAxis axis
   pub side : (degrees 1 ≤ℤ axis.from) ⊎ (last_value axis ≤ℤ neg_ℤ (degrees 1))
 
--- at most 100,000 km, in millimetres
+-- a false easting or northing, in millimetres: at most 100,000 km in absolute value
 abbrev pub IsFalseOrigin : ℤ → Type 0
 IsFalseOrigin = IsBetween (neg_ℤ (pos 100_000_000_000)) (pos 100_000_000_000)
 
--- what a family of each kind has on its four axes, and its latitude of false origin
+-- transverse Mercator: the longitude and the scale factor may vary, the latitude may not; azimuth
+-- and latitude of false origin are 0
 pub record IsTm (f : Family) : Type 0 where
   pub lat : IsOneValue (neg_ℤ (degrees 80)) (degrees 80) f.lat
   pub lon : IsLongitudeAxis f.lon
@@ -63,6 +69,7 @@ pub record IsTm (f : Family) : Type 0 where
   pub scale : IsScaleAxis f.scale
   pub origin : f.origin ≡ pos 0
 
+-- Lambert with one standard parallel: it and the scale factor may vary, the longitude may not
 pub record IsLambert (f : Family) : Type 0 where
   pub lat : IsParallelAxis f.lat
   pub lon : IsOneValue (neg_ℤ (degrees 180)) (degrees 360) f.lon
@@ -70,6 +77,7 @@ pub record IsLambert (f : Family) : Type 0 where
   pub scale : IsScaleAxis f.scale
   pub origin : f.origin ≡ pos 0
 
+-- oblique Mercator: all four may vary; the centre is at least 1 degree from the equator
 pub record IsHotine (f : Family) : Type 0 where
   pub lat : IsParallelAxis f.lat
   pub lon : IsLongitudeAxis f.lon
@@ -77,7 +85,8 @@ pub record IsHotine (f : Family) : Type 0 where
   pub scale : IsScaleAxis f.scale
   pub origin : f.origin ≡ pos 0
 
--- the third axis has the second parallel
+-- Lambert with two standard parallels: both may vary, the second one on the third axis; the
+-- longitude may not, and the scale factor is 1
 pub record IsLambert2 (f : Family) : Type 0 where
   pub lat : IsParallelAxis f.lat
   pub lon : IsOneValue (neg_ℤ (degrees 180)) (degrees 360) f.lon
@@ -85,6 +94,7 @@ pub record IsLambert2 (f : Family) : Type 0 where
   pub scale : f.scale ≡ single_axis (tenths 10)
   pub origin : IsLatitude f.origin
 
+-- the axes and the latitude of false origin are such as the kind asks
 abbrev pub IsOfKind : Kind → Family → Type 0
 IsOfKind Tm f = IsTm f
 IsOfKind Lambert f = IsLambert f
@@ -102,12 +112,12 @@ pub record IsValid (f : Family) : Type 0 where
   pub northing : IsFalseOrigin f.northing
   pub few : design_count f ≤ 1_000_000_000_000
 
--- what design grids keep
+-- valid design grids: at most 16 families, each of them valid
 pub record AreGrids (families : List Family) : Type 0 where
   pub valid : All IsValid families
-  pub few : length families ≤ 16
+  pub few : length families ≤ most_families
 
--- the family with this number, from 1
+-- the family with this number, counted from 1; None if there is none
 abbrev pub family_of : List Family → ℕ → Option Family
 family_of families zero = None
 family_of families (suc index) = slice_get families index

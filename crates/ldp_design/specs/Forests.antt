@@ -7,6 +7,7 @@ use Rattle.ldp_design.specs.declared.node.Node.{Node}
 use Rattle.ldp_design.specs.declared.node.Node.TheVariants.{Tree, Split, Leaf, Unusable}
 use Rattle.ldp_design.specs.declared.family.Family.{Family}
 use Rattle.ldp_design.specs.declared.design_box.DesignBox.{DesignBox}
+use Rattle.ldp_design.specs.Limits.{most_nodes}
 use Rattle.ldp_design.specs.Boxes.{whole_of}
 use Rattle.ldp_design.specs.Splits.{parts_at}
 
@@ -38,7 +39,7 @@ is_shaped (Unusable _ ∷ entries) (suc pending) = is_shaped entries pending
 -- a list of `Tree` entries, each followed by one complete tree, with at most 2,000,000 nodes
 pub record IsWellShaped (entries : List Node) : Type 0 where
   pub shape : is_shaped entries 0 ≡ true
-  pub few : node_count entries ≤ 2_000_000
+  pub few : node_count entries ≤ most_nodes
 
 -- where a walk along the entries of a forest stands: how many trees have begun, and the boxes whose
 -- nodes are still to come, the next one first

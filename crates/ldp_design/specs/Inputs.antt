@@ -1,6 +1,6 @@
 -- The inputs of the design list: the four values of a design as numbers.
-use Rattle.std.specs.Prelude.{IsSomeAnd, pos, neg_ℤ, ℕ, ℤ, ◌≤ℤ◌, List, Option, option_map}
-use Rattle.ldp_num.specs.Number.{limit, IsNumber}
+use Rattle.std.specs.Prelude.{pos, neg_ℤ, ℕ, ℤ, List, Option, option_map}
+use Rattle.ldp_num.specs.Number.{limit}
 use Rattle.ldp_num.specs.Units.{radians_of}
 use Rattle.ldp_design.specs.declared.axis.Axis.{Axis}
 use Rattle.ldp_design.specs.declared.family.Family.{Family}
@@ -9,7 +9,7 @@ use Rattle.ldp_design.specs.declared.design_box.DesignBox.{DesignBox}
 use Rattle.ldp_design.specs.declared.inputs.Inputs4.{Inputs4}
 use Rattle.ldp_design.specs.Families.{family_of, value_at, IsAxis}
 use Rattle.ldp_quantity.specs.Quantity.{degrees}
-use Rattle.ldp_design.specs.Boxes.{first_of, last_of, IsIn}
+use Rattle.ldp_design.specs.Boxes.{first_of, last_of}
 
 -- an axis of angles, from -360 to 360 degrees
 abbrev pub IsAngleAxis : Axis → Type 0
@@ -19,10 +19,12 @@ IsAngleAxis axis = IsAxis (neg_ℤ (degrees 360)) (degrees 360) axis
 abbrev pub IsNumberAxis : Axis → Type 0
 IsNumberAxis axis = IsAxis (neg_ℤ (pos limit)) (pos limit) axis
 
--- an angle becomes radians
+-- the angle with this index, in units of 10^-15 radians, rounded down
 abbrev pub angle_at : Axis → ℕ → ℤ
 angle_at axis i = radians_of (value_at axis i)
 
+-- the values of a design of this family as numbers of unit 10^-15: the angles in radians, and the
+-- scale factor
 abbrev pub inputs_at : Family → Design → Inputs4
 inputs_at f d = record {
   lat = angle_at f.lat d.lat;
@@ -40,30 +42,3 @@ abbrev pub box_inputs : List Family → DesignBox → Option (Inputs4 × Inputs4
 box_inputs families b =
     option_map (λ f. (inputs_at f (first_of b), inputs_at f (last_of b)))
     (family_of families b.family)
-
-pub record AreNumbers (inputs : Inputs4) : Type 0 where
-  pub lat : IsNumber inputs.lat
-  pub lon : IsNumber inputs.lon
-  pub azimuth : IsNumber inputs.azimuth
-  pub scale : IsNumber inputs.scale
-
--- each input is at most the other
-pub record AreOrdered (low high : Inputs4) : Type 0 where
-  pub lat : low.lat ≤ℤ high.lat
-  pub lon : low.lon ≤ℤ high.lon
-  pub azimuth : low.azimuth ≤ℤ high.azimuth
-  pub scale : low.scale ≤ℤ high.scale
-
--- each input lies between two
-pub record LieBetween (low high : Inputs4) (inputs : Inputs4) : Type 0 where
-  pub lat : (low.lat ≤ℤ inputs.lat) × (inputs.lat ≤ℤ high.lat)
-  pub lon : (low.lon ≤ℤ inputs.lon) × (inputs.lon ≤ℤ high.lon)
-  pub azimuth : (low.azimuth ≤ℤ inputs.azimuth) × (inputs.azimuth ≤ℤ high.azimuth)
-  pub scale : (low.scale ≤ℤ inputs.scale) × (inputs.scale ≤ℤ high.scale)
-
--- the inputs of a box are numbers, and those of each of its designs lie between them
-pub record HaveBetween (families : List Family) (b : DesignBox) (low high : Inputs4) : Type 0 where
-  pub low_numbers : AreNumbers low
-  pub high_numbers : AreNumbers high
-  pub ordered : AreOrdered low high
-  pub designs : (d : Design) → IsIn d b → IsSomeAnd (design_inputs families d) (LieBetween low high)

@@ -2,8 +2,13 @@ pub mod Boxes
 pub mod Designs
 pub mod Families
 pub mod Forests
+pub mod Grids
 pub mod Inputs
+pub mod KeyRanges
+pub mod Kinds
 pub mod Laws
+pub mod Limits
 pub mod Measures
 pub mod Shapes
 pub mod Splits
+pub mod Words

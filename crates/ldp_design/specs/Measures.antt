@@ -7,7 +7,8 @@ use Rattle.ldp_design.specs.declared.design_box.DesignBox.{DesignBox}
 use Rattle.ldp_design.specs.Families.{value_at}
 use Rattle.ldp_design.specs.Inputs.{angle_at}
 
--- the width of an angle in radians, and 64 times the width of the scale factor
+-- the width of a box on this axis: of an angle in units of 10^-15 radians, and of the scale factor
+-- 64 times its width
 unfoldable pub measure : Family → DesignBox → AxisName → ℤ
 measure f b Lat = angle_at f.lat b.lat.hi -ℤ angle_at f.lat b.lat.lo
 measure f b Lon = angle_at f.lon b.lon.hi -ℤ angle_at f.lon b.lon.lo

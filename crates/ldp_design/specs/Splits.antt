@@ -1,12 +1,11 @@
 -- How a box is cut in two. (Own choice of this project.)
-use Rattle.std.specs.Prelude.{◌≡◌, ℕ, ◌+◌, ◌/◌, ◌<◌, ◌≤◌, ◌⊎◌, List, Option, None, Some, option_map}
+use Rattle.std.specs.Prelude.{ℕ, ◌+◌, ◌/◌, ◌<◌, ◌≤◌, List, Option, None, Some, option_map}
 use Rattle.std.specs.Prelude.{option_and_then, if◌then◌else◌}
 use Rattle.ldp_design.specs.declared.axis.AxisName.{AxisName}
 use Rattle.ldp_design.specs.declared.family.Family.{Family}
-use Rattle.ldp_design.specs.declared.design.Design.{Design}
 use Rattle.ldp_design.specs.declared.design_box.DesignBox.{DesignBox}
 use Rattle.ldp_design.specs.Families.{family_of}
-use Rattle.ldp_design.specs.Boxes.{span_of, with_span, is_single, LiesIn, IsIn, size, width}
+use Rattle.ldp_design.specs.Boxes.{span_of, with_span, is_single}
 use Rattle.ldp_design.specs.Measures.{widest}
 
 -- the low part of a box, whose last index on the axis is the cut, and the high part, which begins
@@ -37,19 +36,3 @@ split_of families b = option_map (λ c. parts_at c.0 c.1 b) (cut_for families b)
 pub record IsCut (axis : AxisName) (at : ℕ) (b : DesignBox) : Type 0 where
   pub low : (span_of axis b).lo ≤ at
   pub high : at < (span_of axis b).hi
-
--- what is true of two parts of a box: they lie in its family, they are smaller, and its designs are
--- those of the parts
-pub record AreParts (families : List Family) (b low high : DesignBox) : Type 0 where
-  pub low_lies : LiesIn families low
-  pub high_lies : LiesIn families high
-  pub low_family : low.family ≡ b.family
-  pub high_family : high.family ≡ b.family
-  pub low_narrower : width low < width b
-  pub high_narrower : width high < width b
-  pub low_smaller : size low < size b
-  pub high_smaller : size high < size b
-  pub sizes : size low + size high ≡ size b
-  pub covered : (d : Design) → IsIn d b → IsIn d low ⊎ IsIn d high
-  pub low_in : (d : Design) → IsIn d low → IsIn d b
-  pub high_in : (d : Design) → IsIn d high → IsIn d b

@@ -1,9 +1,13 @@
 ghost use Rattle.std.specs.Prelude.{◌≡◌, List, IsTrue, ◌↔◌};
 ghost use Rattle.ldp_design.specs.declared.family.Family.{Family};
-ghost use Rattle.ldp_design.specs.Boxes.{IsSingle, is_single, LiesIn, span_of, with_span};
-ghost use Rattle.ldp_design.specs.Splits.{AreParts, IsCut, parts_at};
+ghost use Rattle.ldp_design.specs.Designs.{IsAdmitted};
+ghost use Rattle.ldp_design.specs.Boxes.{IsIn, IsSingle, is_single, LiesIn, first_of, last_of};
+ghost use Rattle.ldp_design.specs.Boxes.{span_of, with_span};
+ghost use Rattle.ldp_design.specs.Splits.{IsCut, parts_at};
+ghost use Rattle.ldp_design.specs.Laws.{AreParts};
 
 use crate::axis::AxisName;
+use crate::design::Design;
 
 /// The indices from `lo` to `hi` on an axis, both among them.
 #[derive(Clone, Copy, Debug, PartialEq, Eq, PartialOrd, Ord)]
@@ -32,6 +36,37 @@ impl DesignBox {
             AxisName::Lon => self.lon,
             AxisName::Azimuth => self.azimuth,
             AxisName::Scale => self.scale,
+        }
+    }
+
+    /// The design with the low index of each axis.
+    #[tactic(auto, using(crate::proofs::Wholes::firsts))]
+    pub fn first(&self) -> Design
+        ensures value { result ≡ first_of self.now }
+        ensures within { (families : List Family) → LiesIn families self.now
+            → IsIn result self.now }
+        ensures admitted { (families : List Family) → LiesIn families self.now
+            → IsAdmitted families result }
+    {
+        Design {
+            family: self.family,
+            lat: self.lat.lo,
+            lon: self.lon.lo,
+            azimuth: self.azimuth.lo,
+            scale: self.scale.lo,
+        }
+    }
+
+    /// The design with the high index of each axis.
+    pub(crate) fn last(&self) -> Design
+        ensures { result ≡ last_of self.now }
+    {
+        Design {
+            family: self.family,
+            lat: self.lat.hi,
+            lon: self.lon.hi,
+            azimuth: self.azimuth.hi,
+            scale: self.scale.hi,
         }
     }
 

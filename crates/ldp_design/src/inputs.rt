@@ -1,9 +1,9 @@
 ghost use Rattle.std.specs.Prelude.{◌≡◌, Some};
 ghost use Rattle.ldp_design.specs.Families.{IsValid};
 ghost use Rattle.ldp_design.specs.Designs.{IsAdmitted, IsDesignOf};
-ghost use Rattle.ldp_design.specs.Boxes.{LiesIn, first_of, last_of};
-ghost use Rattle.ldp_design.specs.Inputs.{inputs_at, design_inputs, box_inputs, AreNumbers};
-ghost use Rattle.ldp_design.specs.Inputs.{HaveBetween};
+ghost use Rattle.ldp_design.specs.Boxes.{LiesIn};
+ghost use Rattle.ldp_design.specs.Inputs.{inputs_at, design_inputs, box_inputs};
+ghost use Rattle.ldp_design.specs.Laws.{AreNumbers, HaveBetween};
 
 use crate::axis::{angle_at, value_at};
 use crate::design::Design;
@@ -22,8 +22,8 @@ pub struct Inputs4 {
 
 /// The inputs of a design.
 pub fn inputs_at(grids: &Grids, d: &Design) -> Inputs4
-    requires { IsAdmitted grids.now d.now }
-    ensures value { design_inputs grids.now d.now ≡ Some result }
+    requires { IsAdmitted grids.now.families d.now }
+    ensures value { design_inputs grids.now.families d.now ≡ Some result }
     ensures numbers { AreNumbers result }
 {
     family_inputs(grids.family(d.family), d)
@@ -31,39 +31,15 @@ pub fn inputs_at(grids: &Grids, d: &Design) -> Inputs4
 
 /// The inputs at the low and at the high indices of a box.
 pub fn inputs_of(grids: &Grids, b: &DesignBox) -> (Inputs4, Inputs4)
-    requires { LiesIn grids.now b.now }
-    ensures value { box_inputs grids.now b.now ≡ Some result }
-    ensures between { HaveBetween grids.now b.now result.0 result.1 }
+    requires { LiesIn grids.now.families b.now }
+    ensures value { box_inputs grids.now.families b.now ≡ Some result }
+    ensures between { HaveBetween grids.now.families b.now result.0 result.1 }
 {
     let family = grids.family(b.family);
     (
-        family_inputs(family, &first_of(b)),
-        family_inputs(family, &last_of(b)),
+        family_inputs(family, &b.first()),
+        family_inputs(family, &b.last()),
     )
-}
-
-fn first_of(b: &DesignBox) -> Design
-    ensures { result ≡ first_of b.now }
-{
-    Design {
-        family: b.family,
-        lat: b.lat.lo,
-        lon: b.lon.lo,
-        azimuth: b.azimuth.lo,
-        scale: b.scale.lo,
-    }
-}
-
-fn last_of(b: &DesignBox) -> Design
-    ensures { result ≡ last_of b.now }
-{
-    Design {
-        family: b.family,
-        lat: b.lat.hi,
-        lon: b.lon.hi,
-        azimuth: b.azimuth.hi,
-        scale: b.scale.hi,
-    }
 }
 
 fn family_inputs(family: &Family, d: &Design) -> Inputs4

@@ -1,6 +1,8 @@
 //! The laws of designs and boxes, for all of them at once.
 ghost use Rattle.ldp_design.specs.Shapes.{ShapesAreForests};
-ghost use Rattle.ldp_design.specs.Laws.{WholesHold, BoxesAreAdmitted, SinglesHaveOne, CutsPart};
+ghost use Rattle.ldp_design.specs.Laws.{WholesHold, BoxesAreAdmitted, AdmittedAreTested};
+ghost use Rattle.ldp_design.specs.Laws.{FirstsAreIn, FirstsAreAdmitted, SinglesHaveOne};
+ghost use Rattle.ldp_design.specs.Laws.{SinglesAreTested, CutsPart};
 ghost use Rattle.ldp_design.specs.Laws.{SplitsCut, SinglesEnd, InputsLieBetween};
 ghost use Rattle.ldp_design.specs.Laws.{FamiliesAreInRange};
 
@@ -9,14 +11,22 @@ pub fn wholes()
     ensures { WholesHold }
 {}
 
-/// Each design of a box that lies in its family is admissible.
+/// Each design of a box that lies in its family is admissible, and the test admits what is.
 pub fn admitted()
-    ensures { BoxesAreAdmitted }
+    ensures boxes { BoxesAreAdmitted }
+    ensures tested { AdmittedAreTested }
 {}
 
-/// A single has no design but its first and last.
+/// The first design of a box that lies in its family is one of the box.
+pub fn firsts()
+    ensures within { FirstsAreIn }
+    ensures admitted { FirstsAreAdmitted }
+{}
+
+/// A single has no design but its first and last, and the test finds it.
 pub fn singles()
-    ensures { SinglesHaveOne }
+    ensures one { SinglesHaveOne }
+    ensures tested { SinglesAreTested }
 {}
 
 /// A box that is cut within a span has two smaller parts with its designs.

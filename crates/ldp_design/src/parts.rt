@@ -1,7 +1,8 @@
 ghost use Rattle.std.specs.Prelude.{◌≡◌, ◌↔◌, None, IfSome};
 ghost use Rattle.ldp_design.specs.Families.{IsValid};
 ghost use Rattle.ldp_design.specs.Boxes.{IsBoxOf, IsSingle, LiesIn};
-ghost use Rattle.ldp_design.specs.Splits.{AreParts, IsCut, cut_for, family_cut, split_of};
+ghost use Rattle.ldp_design.specs.Splits.{IsCut, cut_for, family_cut, split_of};
+ghost use Rattle.ldp_design.specs.Laws.{AreParts};
 
 use crate::axis::AxisName;
 use crate::design_box::{DesignBox, cut, is_single};
@@ -11,8 +12,8 @@ use crate::measure::widest;
 
 /// Where a box is cut: its axis of greatest measure, and the last index of the low part.
 pub fn cut_for(grids: &Grids, b: &DesignBox) -> Option<(AxisName, u32)>
-    requires { LiesIn grids.now b.now }
-    ensures value { result ≡ cut_for grids.now b.now }
+    requires { LiesIn grids.now.families b.now }
+    ensures value { result ≡ cut_for grids.now.families b.now }
     ensures single { (result ≡ None) ↔ IsSingle b.now }
     ensures within { IfSome result (λ c. IsCut c.0 c.1 b.now) }
 {
@@ -21,10 +22,10 @@ pub fn cut_for(grids: &Grids, b: &DesignBox) -> Option<(AxisName, u32)>
 
 /// The two parts of a box.
 pub fn split(grids: &Grids, b: &DesignBox) -> Option<(DesignBox, DesignBox)>
-    requires { LiesIn grids.now b.now }
-    ensures value { result ≡ split_of grids.now b.now }
+    requires { LiesIn grids.now.families b.now }
+    ensures value { result ≡ split_of grids.now.families b.now }
     ensures single { (result ≡ None) ↔ IsSingle b.now }
-    ensures parts { IfSome result (λ parts. AreParts grids.now b.now parts.0 parts.1) }
+    ensures parts { IfSome result (λ parts. AreParts grids.now.families b.now parts.0 parts.1) }
 {
     let (axis, at) = cut_for(grids, b)?;
     Some(cut(b, axis, at))

@@ -8,13 +8,9 @@ use Rattle.std.specs.Prelude.{All, Option, Some, None, option_map, option_and_th
 use Rattle.ldp_num.specs.declared.fix.Fix.{Fix}
 use Rattle.ldp_num.specs.Number.{IsNumber}
 use Rattle.ldp_num.specs.Written.{written, plain_in, plain_out}
-use Rattle.ldp_num.specs.declared.step.Step.{Step}
-use Rattle.ldp_num.specs.Steps.{results_of}
-use Rattle.ldp_num.specs.StepList.{StepList, at_places, value, value_in, first_result}
+use Rattle.ldp_num.specs.StepList.{StepList, value, value_in, first_result}
 use Rattle.ldp_num.proofs.Listed.{plain_told}
-use Rattle.std.specs.Bool.{OnFalse}
 use Rattle.ldp_distortion.specs.Inputs.{numbers}
-use Rattle.ldp_distortion.specs.CellRuns.{HasResults}
 
 -- what plain carriers mean
 pub meant : (xs : List Fix) → map (λ one. plain_out one.n) xs ≡ map plain_out (numbers xs)
@@ -69,24 +65,3 @@ push_more items was now values i x within read pushed so_far =
     ∙ append_assoc items (numbers (take i values)) (x.n ∷ [])
     ∙ ap (λ (one : Fix). items ++ (numbers (take i values) ++ one.n ∷ [])) read
     ∙ ap (λ (ns : List ℤ). items ++ ns) (sym more)
-
--- what a run of the steps says of the value of their list
-pub run_given : (list : StepList) (inputs run results : List Fix) → HasResults list.steps inputs run
-    → at_places (map (λ (one : Fix). plain_out one.n) run) list.outs
-    ≡ Some (map (λ (one : Fix). plain_out one.n) results)
-    → value list (numbers inputs) ≡ Some (numbers results)
-run_given list inputs run results h k =
-    run_numbers list inputs true results
-    (ap (option_and_then (λ found. at_places found list.outs)) h ∙ k)
-
-pub run_undefined : (list : StepList) (inputs run : List Fix) (steps : List Step) (defined : Bool)
-    → steps ≡ list.steps
-    → results_of (written 0) (map (λ (one : Fix). plain_out one.n) inputs) steps
-    ≡ (if defined then Some (map (λ (one : Fix). plain_out one.n) run) else None)
-    → OnFalse defined (value list (numbers inputs) ≡ None)
-run_undefined list inputs run steps true e h = tt
-run_undefined list inputs run steps false e h =
-    run_numbers list inputs false run
-    (ap (λ (ss : List Step). option_and_then (λ found. at_places found list.outs)
-    (results_of (written 0) (map (λ (one : Fix). plain_out one.n) inputs) ss)) (sym e)
-    ∙ ap (option_and_then (λ found. at_places found list.outs)) h)

@@ -7,10 +7,11 @@ use Rattle.ldp_cells.specs.declared.cell.Cell.{Cell}
 use Rattle.ldp_distortion.specs.Inputs.{design_inputs, cell_inputs}
 use Rattle.ldp_distortion.specs.declared.inputs.Inputs.{Inputs}
 
--- the results of a design list, and those of a cell list at a cell
+-- the results of a design list; None if it is undefined
 abbrev pub design_results : StepList → Inputs → Option (List ℤ)
 design_results list at = value list (design_inputs at)
 
+-- the results of a cell list at a cell; None if it is undefined there
 abbrev pub cell_results : StepList → Cell → Option (List ℤ)
 cell_results list cell = value list (cell_inputs cell)
 
@@ -23,15 +24,18 @@ joined_in ops lists of_design of_cell =
     (λ design. option_and_then (λ cell.
     first_result (value_in ops lists.joint (design ++ map ops.constant cell))) of_cell) of_design
 
--- from the inputs of the design list
+-- in any carrier: the distortion from the inputs of the design list and the results of the cell
+-- list
 unfoldable pub distortion_in : {A : Type 0} → Ops A → Lists → List A → Option (List ℤ) → Option A
 distortion_in ops lists inputs of_cell =
     joined_in ops lists (value_in ops lists.design inputs) of_cell
 
--- over numbers
+-- the same over numbers
 abbrev pub joined : Lists → Option (List ℤ) → Option (List ℤ) → Option ℤ
 joined lists of_design of_cell = joined_in number_ops lists of_design of_cell
 
+-- the linear distortion of a design at a cell, in units of 10^-15; None if one of the three lists
+-- is undefined
 unfoldable pub distortion : Lists → Inputs → Cell → Option ℤ
 distortion lists at cell =
     distortion_in number_ops lists (design_inputs at) (cell_results lists.cell cell)

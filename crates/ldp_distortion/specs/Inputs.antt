@@ -10,6 +10,7 @@ use Rattle.ldp_distortion.specs.declared.inputs.Inputs.{Inputs}
 abbrev pub design_inputs : Inputs → List ℤ
 design_inputs at = at.lat ∷ at.lon ∷ at.azimuth ∷ at.scale ∷ []
 
+-- each of the four inputs of the design list is a number
 pub record AreNumbers (at : Inputs) : Type 0 where
   pub lat : IsNumber at.lat
   pub lon : IsNumber at.lon
@@ -21,6 +22,6 @@ pub record AreNumbers (at : Inputs) : Type 0 where
 abbrev pub cell_inputs : Cell → List ℤ
 cell_inputs cell = radians_of cell.y ∷ radians_of cell.x ∷ height_number cell.mm ∷ []
 
--- the numbers that plain carriers stand for
+-- the numbers of some `Fix` values
 abbrev pub numbers : List Fix → List ℤ
 numbers values = map (λ one. one.n) values

@@ -1,6 +1,6 @@
 pub mod Inputs
+pub mod Laws
 pub mod Distortion
 pub mod Worst
 pub mod Rows
-pub mod CellRuns
 pub mod Prepared

@@ -35,6 +35,7 @@ pub record PreparedCells : Type 0 where
 abbrev pub HasRows : PreparedCells → Type 0
 HasRows p = AreRows (length p.lists.cell.outs) p.results
 
+-- the lists with the results of their cell list at each of these cells
 abbrev pub prepared : Lists → List Cell → PreparedCells
 prepared lists cells = record { lists = lists; results = map (cell_results lists.cell) cells }
 

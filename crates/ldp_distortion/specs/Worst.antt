@@ -11,10 +11,12 @@ use Rattle.ldp_distortion.specs.declared.worst.Worst.TheVariants.{Is, Unusable}
 abbrev pub IsUsable : List (Option ℤ) → Type 0
 IsUsable distortions = All (λ distortion. IsSome distortion) distortions
 
+-- the largest of some numbers; 0 if there are none
 abbrev pub largest : List ℕ → ℕ
 largest [] = 0
 largest (n ∷ ns) = max n (largest ns)
 
+-- the absolute values of those distortions that are defined
 abbrev pub absolute_values : List (Option ℤ) → List ℕ
 absolute_values distortions = filter_map (option_map nat_abs) distortions
 

@@ -5,8 +5,8 @@
 //! distortion k R / (R + h) - 1 (NOAA SP NOS NGS 13) at a cell.
 #![tactic(auto)]
 
-mod cell_runs;
 mod inputs;
+pub mod laws;
 mod prepared;
 mod table;
 mod worst;

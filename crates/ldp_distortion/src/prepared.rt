@@ -16,13 +16,10 @@ use crate::inputs::{Inputs, design_inputs};
 use crate::table::Table;
 use crate::worst::Worst;
 use ldp_cells::Cells;
-use ldp_num::{Bench, Fix, Num};
+use ldp_num::{Bench, Fix, MOST_INPUTS, Num};
 use ldp_series::Lists;
 use std::alloc::Global;
 use std::marker::Model;
-
-/// The most inputs of a list.
-const MOST_INPUTS: usize = 16;
 
 /// Cells prepared for the lists of a projection, seen as the lists and, for each cell, the results
 /// of the cell list, none where they are undefined.

@@ -6,16 +6,15 @@ ghost use Rattle.ldp_distortion.specs.Distortion.{cell_results};
 ghost use Rattle.ldp_distortion.specs.Rows.{AreRows};
 
 use crate::Memory;
-use crate::cell_runs::CellRuns;
 use crate::inputs::cell_inputs;
 use ldp_cells::Cells;
-use ldp_num::Fix;
-use ldp_series::List;
+use ldp_num::{Fix, MOST_RESULTS};
+use ldp_series::{CutRuns, List};
 use std::alloc::Global;
 use std::marker::Model;
 
-/// The most results of a list.
-const MOST_RESULTS: usize = 8;
+/// How many inputs of the cell list cells of a row have in common: the latitude, its first.
+const IN_A_ROW: u16 = 1;
 
 /// The results of the cell list at each cell, or that they are undefined. The numbers of all cells
 /// stand in one list, so many a cell; those of an undefined cell stand for nothing.
@@ -51,14 +50,14 @@ impl Table {
     {
         let count = cells.len();
         let width = list.outs().len();
-        let mut runs = CellRuns::new(alloc, list)?;
+        let mut runs = CutRuns::new(alloc, list, IN_A_ROW)?;
         let mut buffer = [Fix { n: 0 }; MOST_RESULTS];
         let results = &mut buffer[..width];
         let mut defined = Vec::with_capacity(alloc, count as usize)?;
         let mut numbers = Vec::with_capacity(alloc, width * count as usize)?;
         for cell in 0..count {
             let inputs = cell_inputs(&cells.get(cell));
-            defined.push(runs.run_into(list, &inputs, results))?;
+            defined.push(runs.run_into(&inputs, results))?;
             push_numbers(&mut numbers, results)?;
         }
         Ok(Table {

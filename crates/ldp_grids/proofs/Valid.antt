@@ -10,17 +10,17 @@ use Rattle.ldp_design.specs.declared.family.Kind.TheVariants.{Tm, Lambert, Hotin
 use Rattle.ldp_design.specs.Families.{IsAxis, IsOneValue, IsParallelAxis, IsFalseOrigin}
 use Rattle.ldp_design.specs.Families.{single_axis, last_value}
 use Rattle.ldp_quantity.specs.Quantity.{degrees}
-use Rattle.ldp_grids.specs.declared.fault.Key.{Key}
-use Rattle.ldp_grids.specs.declared.fault.Key.TheVariants as keys
+use Rattle.ldp_design.specs.declared.key.Key.{Key}
+use Rattle.ldp_design.specs.declared.key.Key.TheVariants as keys
 use Rattle.ldp_grids.specs.declared.quantities.Quantities.{Quantities}
-use Rattle.ldp_grids.specs.declared.range.Range.{Range}
-use Rattle.ldp_grids.specs.Ranges.{range_of}
+use Rattle.ldp_design.specs.declared.key_range.KeyRange.{KeyRange}
+use Rattle.ldp_design.specs.KeyRanges.{range_of}
 use Rattle.ldp_grids.specs.Families.{crosses}
 use Rattle.ldp_grids.specs.Facts.{IsAxisIn, IsValueIn, AreQuantities, IsBounded, IsRead}
 use Rattle.ldp_grids.specs.Facts.{family_from}
 use Rattle.ldp_grids.proofs.Singles.{single_is_axis}
 
-axis_in : (range : Range) (axis : Axis) → IsAxisIn range axis → IsAxis range.low range.high axis
+axis_in : (range : KeyRange) (axis : Axis) → IsAxisIn range axis → IsAxis range.low range.high axis
 axis_in range axis h = record {
   first = h.first.low;
   last = h.last.high;

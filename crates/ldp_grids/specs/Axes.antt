@@ -11,16 +11,18 @@ use Rattle.ldp_design.specs.declared.family.Kind.{Kind}
 use Rattle.ldp_design.specs.Families.{single_axis, last_value}
 use Rattle.ldp_grids.specs.declared.column.Form.{Form}
 use Rattle.ldp_grids.specs.declared.column.Form.TheVariants as forms
-use Rattle.ldp_grids.specs.declared.fault.Key.{Key}
-use Rattle.ldp_grids.specs.declared.fault.Key.TheVariants as keys
+use Rattle.ldp_design.specs.declared.key.Key.{Key}
+use Rattle.ldp_design.specs.declared.key.Key.TheVariants as keys
 use Rattle.ldp_grids.specs.declared.fault.Part.TheVariants.{Whole, From, Step, Count}
 use Rattle.ldp_grids.specs.declared.fault.GridFault.{GridFault}
 use Rattle.ldp_grids.specs.declared.fault.GridFault.TheVariants.{UnknownKey, OutOfRange}
-use Rattle.ldp_grids.specs.Columns.{form_of, name_of}
-use Rattle.ldp_grids.specs.Ranges.{range_of, is_in_range}
+use Rattle.ldp_grids.specs.Columns.{form_of}
+use Rattle.ldp_design.specs.KeyRanges.{range_of, is_in_range}
+use Rattle.ldp_design.specs.Words.{key_text}
 use Rattle.ldp_grids.specs.Numbers.{needed, number_of, step_of, count_of}
 use Rattle.ldp_grids.specs.Tables.{keys_of}
 
+-- a key that an axis table has; it may have no other
 abbrev pub is_axis_key : List ℕ → Bool
 is_axis_key name =
     bytes_eq name (codes "from") || bytes_eq name (codes "step") || bytes_eq name (codes "count")
@@ -39,6 +41,7 @@ spaced_values family kind key table = do
   count ← needed family key Count (get_member (codes "count") table) >>= count_of family key
   ending_in_range family kind key record { from = from; step = step; count = count }
 
+-- the axis that a table says; a table with any other key is a fault
 unfoldable pub spaced_axis : ℕ → Kind → Key → Members → Result Axis GridFault
 spaced_axis family kind key table =
     if list_all is_axis_key (keys_of table) then spaced_values family kind key table
@@ -48,19 +51,31 @@ spaced_axis family kind key table =
 unfoldable pub single_of : ℕ → Kind → Key → Data → Result Axis GridFault
 single_of family kind key given = number_of family kind key Whole given >>= λ n. Ok (single_axis n)
 
+-- an axis table if the value is a table, else the axis of one value
 abbrev pub table_or_single : ℕ → Kind → Key → Data → Option Members → Result Axis GridFault
 table_or_single family kind key given None = single_of family kind key given
 table_or_single family kind key given (Some table) = spaced_axis family kind key table
 
--- an axis table, or one value
+-- the axis of a key's value: an axis table, or one value
 unfoldable pub axis_of : ℕ → Kind → Key → Data → Result Axis GridFault
 axis_of family kind key given = table_or_single family kind key given (as_table given)
 
 -- the value of a key that is not given
 abbrev pub unless_given : Key → ℤ
 unless_given keys.Scale = tenths 10
-unless_given _ = pos 0
+unless_given keys.Top = pos 0
+unless_given keys.Family = pos 0
+unless_given keys.Kind = pos 0
+unless_given keys.Lat = pos 0
+unless_given keys.Lat2 = pos 0
+unless_given keys.Lon = pos 0
+unless_given keys.Azimuth = pos 0
+unless_given keys.Origin = pos 0
+unless_given keys.Easting = pos 0
+unless_given keys.Northing = pos 0
 
+-- the axis of a key by its form, from the value that was found for it; a key that is not given has
+-- its usual value
 abbrev pub quantity_as : ℕ → Kind → Key → Form → Option Data → Result Axis GridFault
 quantity_as family kind key forms.Never found = Ok (single_axis (unless_given key))
 quantity_as family kind key forms.Single found =
@@ -73,4 +88,4 @@ quantity_as family kind key forms.Optional (Some given) = single_of family kind 
 -- the axis of a key in a family's table
 unfoldable pub quantity_of : ℕ → Kind → Key → Members → Result Axis GridFault
 quantity_of family kind key table =
-    quantity_as family kind key (form_of key kind) (get_member (name_of key) table)
+    quantity_as family kind key (form_of key kind) (get_member (key_text key) table)

@@ -1,41 +1,37 @@
 -- What the private functions of the reader speak of: what the numbers, axes and families that were
 -- read keep.
-use Rattle.std.specs.Prelude.{◌≡◌, ◌^◌, ◌≤◌, false, ℤ, pos, negsuc, ◌*ℤ◌, ◌≤ℤ◌, unsigned_abs}
+use Rattle.std.specs.Prelude.{◌≡◌, ◌^◌, ◌≤◌, false, ℤ, pos, negsuc, ◌*ℤ◌, ◌≤ℤ◌}
 use Rattle.ldp_design.specs.declared.axis.Axis.{Axis}
 use Rattle.ldp_design.specs.declared.family.Family.{Family}
 use Rattle.ldp_design.specs.declared.family.Kind.{Kind}
 use Rattle.ldp_design.specs.Families.{single_axis, last_value, design_count, IsValid}
 use Rattle.ldp_grids.specs.declared.column.Form.{Form}
 use Rattle.ldp_grids.specs.declared.column.Form.TheVariants as forms
-use Rattle.ldp_grids.specs.declared.fault.Key.{Key}
-use Rattle.ldp_grids.specs.declared.fault.Key.TheVariants as keys
+use Rattle.ldp_design.specs.declared.key.Key.{Key}
+use Rattle.ldp_design.specs.declared.key.Key.TheVariants as keys
 use Rattle.ldp_grids.specs.declared.quantities.Quantities.{Quantities}
-use Rattle.ldp_grids.specs.declared.range.Range.{Range}
+use Rattle.ldp_design.specs.declared.key_range.KeyRange.{KeyRange}
 use Rattle.ldp_grids.specs.Columns.{form_of}
-use Rattle.ldp_grids.specs.Ranges.{range_of}
+use Rattle.ldp_design.specs.KeyRanges.{range_of, IsInKeyRange}
 use Rattle.ldp_grids.specs.Axes.{unless_given}
 use Rattle.ldp_grids.specs.Families.{family_with, crosses_equator}
 
-pub record IsInRange (range : Range) (n : ℤ) : Type 0 where
-  pub low : range.low ≤ℤ n
-  pub high : n ≤ℤ range.high
-  pub least : range.least ≤ unsigned_abs n
-
 -- an axis from its first to its last value
-pub record IsAxisIn (range : Range) (axis : Axis) : Type 0 where
-  pub first : IsInRange range axis.from
-  pub last : IsInRange range (last_value axis)
+pub record IsAxisIn (range : KeyRange) (axis : Axis) : Type 0 where
+  pub first : IsInKeyRange range axis.from
+  pub last : IsInKeyRange range (last_value axis)
   pub forward : pos 1 ≤ℤ axis.step
   pub step : axis.step ≤ℤ (pos 10 *ℤ range.high)
   pub some : 1 ≤ axis.count
   pub few : axis.count ≤ 100_000
 
 -- one value
-pub record IsValueIn (range : Range) (axis : Axis) : Type 0 where
-  pub first : IsInRange range axis.from
+pub record IsValueIn (range : KeyRange) (axis : Axis) : Type 0 where
+  pub first : IsInKeyRange range axis.from
   pub single : axis ≡ single_axis axis.from
 
-abbrev pub HasForm : Form → Range → ℤ → Axis → Type 0
+-- the axis that a key of this form has: the default alone, one value in range, or values in range
+abbrev pub HasForm : Form → KeyRange → ℤ → Axis → Type 0
 HasForm forms.Never range default axis = axis ≡ single_axis default
 HasForm forms.Single range default axis = IsValueIn range axis
 HasForm forms.Axis range default axis = IsAxisIn range axis
@@ -56,6 +52,7 @@ pub record AreQuantities (kind : Kind) (q : Quantities) : Type 0 where
   pub easting : IsQuantity keys.Easting kind q.easting
   pub northing : IsQuantity keys.Northing kind q.northing
 
+-- the family of this kind with these quantities
 abbrev pub family_from : Kind → Quantities → Family
 family_from kind q =
     family_with kind q.lat q.lat2 q.lon q.azimuth q.scale q.origin q.easting q.northing

@@ -1,35 +1,29 @@
 -- A family of designs as a TOML table, and the order of its faults. (Own choice of this project.)
-use Rattle.std.specs.Prelude.{ℕ, Bool, ◌&&◌, ◌||◌, false, nat_le, ◌^◌, pos, int_lt, List, Option}
-use Rattle.std.specs.Prelude.{Some, None, Result, Ok, Err, if◌then◌else◌, codes, bytes_eq}
+use Rattle.std.specs.Prelude.{ℕ, Bool, ◌&&◌, ◌||◌, false, nat_le, ◌^◌, pos, int_lt}
+use Rattle.std.specs.Prelude.{Result, Ok, Err, if◌then◌else◌}
 use Rattle.std.specs.List.{list_all}
 use Rattle.std.specs.Option.{ok_or}
 use Rattle.toml.specs.Data.{Members, get_member}
 use Rattle.ldp_quantity.specs.Results.{◌>>=◌}
 use Rattle.ldp_design.specs.declared.axis.Axis.{Axis}
 use Rattle.ldp_design.specs.declared.family.Kind.{Kind}
-use Rattle.ldp_design.specs.declared.family.Kind.TheVariants.{Tm, Lambert, Hotine, Lambert2}
 use Rattle.ldp_design.specs.declared.family.Family.{Family}
 use Rattle.ldp_design.specs.Families.{last_value, design_count}
-use Rattle.ldp_grids.specs.declared.fault.Key.TheVariants as keys
+use Rattle.ldp_design.specs.declared.key.Key.TheVariants as keys
 use Rattle.ldp_grids.specs.declared.fault.Part.TheVariants.{Whole}
 use Rattle.ldp_grids.specs.declared.fault.GridFault.{GridFault}
 use Rattle.ldp_grids.specs.declared.fault.GridFault.TheVariants.{BadValue, UnknownKey}
 use Rattle.ldp_grids.specs.declared.fault.GridFault.TheVariants.{CrossesEquator, TooManyDesigns}
-use Rattle.ldp_grids.specs.Columns.{by_kind, is_family_key}
+use Rattle.ldp_design.specs.Kinds.{by_kind}
+use Rattle.ldp_design.specs.Words.{key_text, kind_named}
+use Rattle.ldp_grids.specs.Columns.{is_family_key}
 use Rattle.ldp_grids.specs.Numbers.{needed, text_of}
 use Rattle.ldp_grids.specs.Axes.{quantity_of}
 use Rattle.ldp_grids.specs.Tables.{keys_of}
 
-unfoldable pub kind_named : List ℕ → Option Kind
-kind_named name =
-    if bytes_eq name (codes "tm") then Some Tm
-    else if bytes_eq name (codes "lambert") then Some Lambert
-    else if bytes_eq name (codes "hotine") then Some Hotine
-    else if bytes_eq name (codes "lambert2") then Some Lambert2
-    else None
-
+-- the kind that a family's table says; a fault if it is missing, no string or no kind
 unfoldable pub kind_of : ℕ → Members → Result Kind GridFault
-kind_of family table = needed family keys.Kind Whole (get_member (codes "kind") table)
+kind_of family table = needed family keys.Kind Whole (get_member (key_text keys.Kind) table)
     >>= text_of family keys.Kind Whole
     >>= λ name. ok_or (kind_named name) (BadValue family keys.Kind Whole)
 
@@ -75,6 +69,7 @@ within_limits family f =
     else if nat_le (design_count f) (10 ^ 12) then Ok f
     else Err (TooManyDesigns family)
 
+-- the family of a table with this kind; a key that the kind does not have is a fault
 abbrev pub known_quantities : ℕ → Members → Kind → Result Family GridFault
 known_quantities family table kind =
     if list_all (is_family_key kind) (keys_of table) then quantities_of family kind table

@@ -1,5 +1,4 @@
 pub mod Columns
-pub mod Ranges
 pub mod Numbers
 pub mod Tables
 pub mod Axes

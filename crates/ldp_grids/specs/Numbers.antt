@@ -9,13 +9,13 @@ use Rattle.ldp_decimal.specs.Reading.{decimal_value}
 use Rattle.ldp_quantity.specs.Between.{int_between}
 use Rattle.ldp_quantity.specs.Results.{◌>>=◌}
 use Rattle.ldp_design.specs.declared.family.Kind.{Kind}
-use Rattle.ldp_grids.specs.declared.fault.Key.{Key}
+use Rattle.ldp_design.specs.declared.key.Key.{Key}
 use Rattle.ldp_grids.specs.declared.fault.Part.{Part}
 use Rattle.ldp_grids.specs.declared.fault.Part.TheVariants.{Step, Count}
 use Rattle.ldp_grids.specs.declared.fault.GridFault.{GridFault}
 use Rattle.ldp_grids.specs.declared.fault.GridFault.TheVariants.{MissingKey, BadValue, OutOfRange}
 use Rattle.ldp_grids.specs.declared.fault.GridFault.TheVariants.{StepNotPositive}
-use Rattle.ldp_grids.specs.Ranges.{range_of, is_in_range}
+use Rattle.ldp_design.specs.KeyRanges.{range_of, is_in_range}
 
 -- the value of a key that may not be left out
 abbrev pub needed : ℕ → Key → Part → Option Data → Result Data GridFault
@@ -25,16 +25,17 @@ needed family key part found = ok_or found (MissingKey family key part)
 abbrev pub text_of : ℕ → Key → Part → Data → Result (List ℕ) GridFault
 text_of family key part given = ok_or (as_str given) (BadValue family key part)
 
--- a number that the key may have
+-- the number, if the key may have it, else a fault
 abbrev pub in_range : ℕ → Kind → Key → Part → ℤ → Result ℤ GridFault
 in_range family kind key part n =
     if is_in_range (range_of key kind) n then Ok n else Err (OutOfRange family key part)
 
+-- a number that the key may have, from a text that may have been no number
 abbrev pub in_range_or_fault : ℕ → Kind → Key → Part → Option ℤ → Result ℤ GridFault
 in_range_or_fault family kind key part None = Err (BadValue family key part)
 in_range_or_fault family kind key part (Some n) = in_range family kind key part n
 
--- a value of the key
+-- the number of a key's string, in the unit of the key, rounded half away from zero
 unfoldable pub number_of : ℕ → Kind → Key → Part → Data → Result ℤ GridFault
 number_of family kind key part given = text_of family key part given
     >>= λ text. in_range_or_fault family kind key part
@@ -48,6 +49,7 @@ step_or_fault family kind key (Some n) =
     else if int_le n (pos 10 *ℤ (range_of key kind).high) then Ok n
     else Err (OutOfRange family key Step)
 
+-- the step of an axis table, in the unit of the key
 unfoldable pub step_of : ℕ → Kind → Key → Data → Result ℤ GridFault
 step_of family kind key given = text_of family key Step given
     >>= λ text. step_or_fault family kind key (decimal_value (range_of key kind).places text)

@@ -1,19 +1,18 @@
 ghost use Rattle.std.specs.Prelude.{◌≡◌, ◌≤◌, pos, negsuc, ◌≤ℤ◌, ◌*ℤ◌, option_map, IfOk};
 ghost use Rattle.toml.specs.View.{view, table_view};
 ghost use Rattle.ldp_design.specs.Families.{single_axis, last_value};
+ghost use Rattle.ldp_design.specs.KeyRanges.{range_of, IsInKeyRange};
 ghost use Rattle.ldp_grids.specs.Axes.{spaced_values, spaced_axis, single_of, axis_of, quantity_of};
 ghost use Rattle.ldp_grids.specs.Axes.{unless_given, ending_in_range};
-ghost use Rattle.ldp_grids.specs.Facts.{IsInRange, IsAxisIn, IsValueIn, IsQuantity};
+ghost use Rattle.ldp_grids.specs.Facts.{IsAxisIn, IsValueIn, IsQuantity};
 ghost use Rattle.ldp_grids.specs.Numbers.{needed};
-ghost use Rattle.ldp_grids.specs.Ranges.{range_of};
 
-use crate::column::{Form, form_of, name_of};
-use crate::fault::{GridFault, Key, Part};
+use crate::column::{Form, form_of};
+use crate::fault::{GridFault, Part};
 use crate::number::{needed, read_count, read_number, read_step};
 use crate::place::Place;
-use crate::range::range_of;
 use crate::table::{has_axis_keys, value_at};
-use ldp_design::{Axis, Kind};
+use ldp_design::{Axis, Key, Kind, key_text, range_of};
 use toml::{Table, Value};
 
 /// A scale factor of 1, in units of 10^-15.
@@ -26,7 +25,7 @@ pub fn read_quantity(family: u16, kind: Kind, key: Key, table: &Table) -> Result
     ensures range { IfOk result (IsQuantity key kind) }
 {
     let at = Place { family, key };
-    let value = value_at(table, name_of(key));
+    let value = value_at(table, key_text(key));
     match form_of(key, kind) {
         Form::Never => Ok(single_axis(unless_given(key))),
         Form::Single => read_single(at, kind, needed(at, Part::Whole, value)?),
@@ -52,7 +51,12 @@ fn single_axis(value: i128) -> Axis
 fn unless_given(key: Key) -> i128
     ensures { result ≡ unless_given key }
 {
-    if let Key::Scale = key { NO_SCALE } else { 0 }
+    match key {
+        Key::Scale => NO_SCALE,
+        Key::Top | Key::Family | Key::Kind => 0,
+        Key::Lat | Key::Lat2 | Key::Lon | Key::Azimuth | Key::Origin => 0,
+        Key::Easting | Key::Northing => 0,
+    }
 }
 
 /// An axis of one value.
@@ -106,7 +110,7 @@ fn read_spaced_values(at: Place, kind: Kind, table: &Table) -> Result<Axis, Grid
 
 /// The axis of these values, if the last is in range.
 fn spaced(at: Place, kind: Kind, from: i128, step: i128, count: u32) -> Result<Axis, GridFault>
-    requires first { IsInRange (range_of at.key kind) from }
+    requires first { IsInKeyRange (range_of at.key kind) from }
     requires forward { pos 1 ≤ℤ step }
     requires step { step ≤ℤ (pos 10 *ℤ (range_of at.key kind).high) }
     requires some { 1 ≤ count }

@@ -1,8 +1,7 @@
 ghost use Rattle.std.specs.Prelude.{◌≡◌};
-ghost use Rattle.ldp_grids.specs.Columns.{form_of, name_of, stands, is_family_key};
+ghost use Rattle.ldp_grids.specs.Columns.{form_of, stands, is_family_key};
 
-use crate::fault::Key;
-use ldp_design::Kind;
+use ldp_design::{Key, Kind, key_text};
 
 /// What a family of some kind has at a key.
 #[derive(Clone, Copy, Debug, PartialEq, Eq)]
@@ -58,25 +57,6 @@ pub fn form_of(key: Key, kind: Kind) -> Form
     }
 }
 
-/// The key as it is written in a text; the whole text has no name.
-pub fn name_of(key: Key) -> &'static str
-    ensures { result.now ≡ name_of key }
-{
-    match key {
-        Key::Top => "",
-        Key::Family => "family",
-        Key::Kind => "kind",
-        Key::Lat => "lat",
-        Key::Lat2 => "lat2",
-        Key::Lon => "lon",
-        Key::Azimuth => "azimuth",
-        Key::Scale => "k0",
-        Key::Origin => "origin",
-        Key::Easting => "easting",
-        Key::Northing => "northing",
-    }
-}
-
 /// The keys of the families of all kinds.
 const FAMILY_KEYS: [Key; 9] = [
     Key::Kind,
@@ -94,5 +74,5 @@ const FAMILY_KEYS: [Key; 9] = [
 pub fn is_family_key(kind: Kind, name: &str) -> bool
     ensures { result ≡ is_family_key kind name.now }
 {
-    FAMILY_KEYS.iter().any(|key| name == name_of(*key) && form_of(*key, kind).stands())
+    FAMILY_KEYS.iter().any(|key| name == key_text(*key) && form_of(*key, kind).stands())
 }

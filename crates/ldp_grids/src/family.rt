@@ -2,16 +2,16 @@ ghost use Rattle.std.specs.Prelude.{◌≡◌, ◌*◌, ◌^◌, ◌<◌, IfOk};
 ghost use Rattle.toml.specs.View.{view, table_view};
 ghost use Rattle.ldp_design.specs.Families.{IsValid, design_count};
 ghost use Rattle.ldp_grids.specs.Facts.{IsBounded, IsRead};
-ghost use Rattle.ldp_grids.specs.Families.{kind_named, kind_of, known_quantities, crosses};
+ghost use Rattle.ldp_grids.specs.Families.{kind_of, known_quantities, crosses};
 ghost use Rattle.ldp_grids.specs.Families.{crosses_equator, within_limits, family_of};
 
 use crate::axis::last_value;
-use crate::fault::{GridFault, Key, Part};
+use crate::fault::{GridFault, Part};
 use crate::number::{needed, read_text};
 use crate::place::Place;
 use crate::quantities::read_quantities;
 use crate::table::{has_family_keys, value_at};
-use ldp_design::{Axis, Family, Kind};
+use ldp_design::{Axis, Family, Key, Kind, key_text, kind_named};
 use toml::Table;
 
 /// The most designs of a family.
@@ -37,28 +37,11 @@ fn read_kind(family: u16, table: &Table) -> Result<Kind, GridFault>
         family,
         key: Key::Kind,
     };
-    let value = needed(at, Part::Whole, value_at(table, "kind"))?;
+    let value = needed(at, Part::Whole, value_at(table, key_text(Key::Kind)))?;
     let name = read_text(at, Part::Whole, value)?;
-    match kind_named(name) {
+    match kind_named(name.as_bytes()) {
         Some(kind) => Ok(kind),
         None => Err(at.bad_value(Part::Whole)),
-    }
-}
-
-#[tactic(auto, unfolding(crate::specs::Families::kind_named))]
-fn kind_named(name: &str) -> Option<Kind>
-    ensures { result ≡ kind_named name.now }
-{
-    if name == "tm" {
-        Some(Kind::Tm)
-    } else if name == "lambert" {
-        Some(Kind::Lambert)
-    } else if name == "hotine" {
-        Some(Kind::Hotine)
-    } else if name == "lambert2" {
-        Some(Kind::Lambert2)
-    } else {
-        None
     }
 }
 

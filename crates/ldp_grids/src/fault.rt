@@ -1,23 +1,8 @@
 ghost use Rattle.std.specs.Prelude.{◌≡◌};
 ghost use Rattle.ldp_grids.specs.declared.fault.GridFault.TheVariants.{Memory};
 
+use ldp_design::Key;
 use std::alloc::AllocError;
-
-/// A table of the text, or a key of a family; `k0` is the scale.
-#[derive(Clone, Copy, Debug, PartialEq, Eq)]
-pub enum Key {
-    Top,
-    Family,
-    Kind,
-    Lat,
-    Lat2,
-    Lon,
-    Azimuth,
-    Scale,
-    Origin,
-    Easting,
-    Northing,
-}
 
 /// The part of a key's value: all of it, or a key of its axis table.
 #[derive(Clone, Copy, Debug, PartialEq, Eq)]

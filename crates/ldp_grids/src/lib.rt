@@ -11,11 +11,9 @@ mod fault;
 mod number;
 mod place;
 mod quantities;
-mod range;
 mod read;
 mod table;
 
 pub use column::{Form, form_of};
-pub use fault::{GridFault, Key, Part};
-pub use range::{Range, range_of};
+pub use fault::{GridFault, Part};
 pub use read::read_grids;

@@ -1,15 +1,13 @@
 ghost use Rattle.std.specs.Prelude.{◌≡◌, ◌≤◌, ◌≤ℤ◌, ◌*ℤ◌, pos, option_map, IfOk};
 ghost use Rattle.std.specs.Result.{result_map_both};
 ghost use Rattle.toml.specs.View.{view};
-ghost use Rattle.ldp_grids.specs.Facts.{IsInRange};
-ghost use Rattle.ldp_grids.specs.Ranges.{range_of};
+ghost use Rattle.ldp_design.specs.KeyRanges.{range_of, IsInKeyRange};
 ghost use Rattle.ldp_grids.specs.Numbers.{needed, text_of, in_range, number_of, step_of, count_of};
 
 use crate::fault::{GridFault, Part};
 use crate::place::Place;
-use crate::range::range_of;
 use ldp_decimal::{NumFault, read_decimal};
-use ldp_design::Kind;
+use ldp_design::{Kind, range_of};
 use ldp_quantity::{Unfit, read_between};
 use toml::Value;
 
@@ -20,7 +18,7 @@ const MOST_VALUES: i64 = 100_000;
 #[tactic(auto, unfolding(crate::specs::Numbers::number_of, ldp_quantity::specs::Between::number_from_to))]
 pub fn read_number(at: Place, kind: Kind, part: Part, value: &Value) -> Result<i128, GridFault>
     ensures value { result ≡ number_of at.family kind at.key part (view value.now) }
-    ensures range { IfOk result (IsInRange (range_of at.key kind)) }
+    ensures range { IfOk result (IsInKeyRange (range_of at.key kind)) }
 {
     let text = read_text(at, part, value)?;
     let range = range_of(at.key, kind);
@@ -34,7 +32,7 @@ pub fn read_number(at: Place, kind: Kind, part: Part, value: &Value) -> Result<i
 /// A number that the key may have.
 pub fn in_range(at: Place, kind: Kind, part: Part, n: i128) -> Result<i128, GridFault>
     ensures value { result ≡ in_range at.family kind at.key part n }
-    ensures range { IfOk result (IsInRange (range_of at.key kind)) }
+    ensures range { IfOk result (IsInKeyRange (range_of at.key kind)) }
 {
     if range_of(at.key, kind).has(n) {
         Ok(n)

@@ -1,6 +1,7 @@
 ghost use Rattle.std.specs.Prelude.{◌≡◌};
 
-use crate::fault::{GridFault, Key, Part};
+use crate::fault::{GridFault, Part};
+use ldp_design::Key;
 
 /// A key of a family.
 #[derive(Clone, Copy)]
@@ -10,6 +11,7 @@ pub struct Place {
 }
 
 impl Place {
+    /// The fault of a key that may not be left out, or of a part of its table.
     pub fn missing_key(self, part: Part) -> GridFault
         ensures { result ≡ GridFault.MissingKey self.family self.key part }
     {
@@ -20,6 +22,8 @@ impl Place {
         }
     }
 
+    /// The fault of a table with a key that it may not have; the table is that of this key, or the
+    /// family's.
     pub fn unknown_key(self) -> GridFault
         ensures { result ≡ GridFault.UnknownKey self.family self.key }
     {
@@ -29,6 +33,7 @@ impl Place {
         }
     }
 
+    /// The fault of a value that is of another type than the key's, or no number.
     pub fn bad_value(self, part: Part) -> GridFault
         ensures { result ≡ GridFault.BadValue self.family self.key part }
     {
@@ -39,6 +44,7 @@ impl Place {
         }
     }
 
+    /// The fault of a number that the key may not have.
     pub fn out_of_range(self, part: Part) -> GridFault
         ensures { result ≡ GridFault.OutOfRange self.family self.key part }
     {
@@ -49,6 +55,7 @@ impl Place {
         }
     }
 
+    /// The fault of a step of 0 or below.
     pub fn step_not_positive(self) -> GridFault
         ensures { result ≡ GridFault.StepNotPositive self.family self.key }
     {

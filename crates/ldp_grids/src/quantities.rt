@@ -1,13 +1,13 @@
 ghost use Rattle.std.specs.Prelude.{◌≡◌, ◌≤ℤ◌, pos, negsuc, IfOk};
 ghost use Rattle.std.specs.Result.{result_map_both};
 ghost use Rattle.toml.specs.View.{table_view};
-ghost use Rattle.ldp_grids.specs.Columns.{by_kind};
+ghost use Rattle.ldp_design.specs.Kinds.{by_kind};
 ghost use Rattle.ldp_grids.specs.Facts.{AreQuantities, IsRead, family_from};
 ghost use Rattle.ldp_grids.specs.Families.{quantities_of};
 
 use crate::axis::read_quantity;
-use crate::fault::{GridFault, Key};
-use ldp_design::{Axis, Family, Kind};
+use crate::fault::GridFault;
+use ldp_design::{Axis, Family, Key, Kind};
 use toml::Table;
 
 /// The axes and numbers of a family's table; a number is an axis of one value.
@@ -51,6 +51,8 @@ pub fn read_quantities(family: u16, kind: Kind, table: &Table) -> Result<Quantit
 }
 
 impl Quantities {
+    /// The family of this kind. Whether an axis crosses the equator, and whether it has too many
+    /// designs, was not asked yet.
     pub fn family(&self, kind: Kind) -> Family
         requires { AreQuantities kind self.now }
         ensures value { result ≡ family_from kind self.now }

@@ -4,28 +4,26 @@ ghost use Rattle.std.specs.List.{list_all};
 ghost use Rattle.std.specs.Result.{result_map_both};
 ghost use Rattle.toml.specs.Data.{as_table};
 ghost use Rattle.toml.specs.View.{view, table_view, array_view};
+ghost use Rattle.ldp_design.specs.Limits.{most_families};
 ghost use Rattle.ldp_grids.specs.Reading.{document_of, are_tables, few_tables, families_at};
-ghost use Rattle.ldp_grids.specs.Reading.{tables_of, families_from, grids_of};
+ghost use Rattle.ldp_grids.specs.Reading.{tables_of, families_from, as_plain, grids_of};
 
 use crate::family::read_family;
-use crate::fault::{GridFault, Key};
+use crate::fault::GridFault;
 use crate::table::{has_top_keys, value_at};
-use ldp_design::Grids;
+use ldp_design::{Grids, Key, MOST_FAMILIES, key_text};
 use ldp_tokens::skip_mark;
 use std::alloc::Global;
 use toml::value::Array;
 use toml::{Table, Value};
 
-/// The most families of a text.
-const MOST_FAMILIES: usize = 16;
-
 /// Reads the families of a TOML text.
 ///
-/// Each is a table of the array `family`; docs/DESIGN_GRIDS.md has the keys with their ranges.
+/// Each is a table of the array `family`; docs/INPUTS.md has the keys with their ranges.
 #[tactic(auto, unfolding(crate::specs::Reading::grids_of))]
 pub fn read_grids(alloc: Global, text: &[u8]) -> Result<Grids, GridFault>
     ensures exact { result ≢ Err GridFault.Memory → result ≡ grids_of text.now }
-    ensures some { IfOk result (λ grids. 1 ≤ length grids) }
+    ensures some { IfOk result (λ grids. 1 ≤ length grids.families) }
 {
     let top = read_document(alloc, skip_mark(text))?;
     let tables = tables_of(&top)?;
@@ -51,7 +49,7 @@ fn read_document(alloc: Global, text: &[u8]) -> Result<Table, GridFault>
 fn tables_of(top: &Table) -> Result<&[Value], GridFault>
     ensures value { result_map_both (λ values. map view values.now) (λ fault. fault) result
         ≡ tables_of (table_view top.now) }
-    ensures few { IfOk result (λ values. length values.now ≤ 16) }
+    ensures few { IfOk result (λ values. length values.now ≤ most_families) }
     ensures some { IfOk result (λ values. 1 ≤ length values.now) }
 {
     if !has_top_keys(top) {
@@ -72,7 +70,7 @@ fn families_at(top: &Table) -> Option<&Array>
     ensures { option_map (λ values. array_view values.now) result
         ≡ families_at (table_view top.now) }
 {
-    match value_at(top, "family") {
+    match value_at(top, key_text(Key::Family)) {
         Some(value) => value.as_array(),
         None => None,
     }
@@ -82,13 +80,13 @@ fn families_at(top: &Table) -> Option<&Array>
 fn few_tables(values: &[Value]) -> Result<&[Value], GridFault>
     ensures value { result_map_both (λ values. map view values.now) (λ fault. fault) result
         ≡ few_tables (map view values.now) }
-    ensures few { IfOk result (λ values. length values.now ≤ 16) }
+    ensures few { IfOk result (λ values. length values.now ≤ most_families) }
     ensures some { IfOk result (λ values. 1 ≤ length values.now) }
 {
     if values.is_empty() || !are_tables(values) {
         return Err(GridFault::NoFamily);
     }
-    if values.len() > MOST_FAMILIES {
+    if values.len() > usize::from(MOST_FAMILIES) {
         let families = u32::try_from(values.len()).unwrap_or(u32::MAX);
         return Err(GridFault::TooManyFamilies(families));
     }
@@ -110,9 +108,10 @@ fn all_tables(values: &[Value]) -> bool
 
 /// The families of the tables.
 fn read_families(alloc: Global, tables: &[Value]) -> Result<Grids, GridFault>
-    requires { length tables.now ≤ 16 }
-    ensures exact { result ≢ Err GridFault.Memory → result ≡ families_from 1 (map view tables.now) }
-    ensures count { IfOk result (λ grids. length grids ≡ length tables.now) }
+    requires { length tables.now ≤ most_families }
+    ensures exact { result ≢ Err GridFault.Memory → result
+        ≡ as_plain (families_from 1 (map view tables.now)) }
+    ensures count { IfOk result (λ grids. length grids.families ≡ length tables.now) }
 {
     let mut grids = Grids::new(alloc);
     for value in tables {

@@ -9,7 +9,7 @@ ghost use Rattle.ldp_grids.specs.Reading.{is_top_key};
 ghost use Rattle.ldp_grids.specs.Tables.{keys_of};
 
 use crate::column::is_family_key;
-use ldp_design::Kind;
+use ldp_design::{Key, Kind, key_text};
 use toml::{Table, Value};
 
 /// The value of a key.
@@ -72,5 +72,5 @@ fn are_top_keys(table: &Table) -> bool
 fn is_top_key(name: &str) -> bool
     ensures { result ≡ is_top_key name.now }
 {
-    name == "family"
+    name == key_text(Key::Family)
 }

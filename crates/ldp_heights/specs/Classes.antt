@@ -10,6 +10,7 @@ use Rattle.ldp_decimal.specs.declared.fault.NumFault.{NumFault}
 use Rattle.ldp_decimal.specs.declared.fault.NumFault.TheVariants.{NotANumber, TooLarge}
 use Rattle.ldp_heights.specs.Grid.{metres}
 
+-- not a number, a number that is too great in absolute value, or a whole number of millimetres
 pub data Class : Type 0 where
   nan too_high too_low : Class
   millimetres : ℤ → Class
@@ -31,6 +32,7 @@ class_of bytes =
     if is_nan bytes then Some nan
     else number_class (decimal_of 3 (unsigned_abs (metres 100_000)) bytes)
 
+-- whether two classes are equal; of two numbers all millimetres must be equal
 abbrev pub same_class : Class → Class → Bool
 same_class nan nan = true
 same_class (millimetres n) (millimetres m) = int_eq n m

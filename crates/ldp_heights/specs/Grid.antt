@@ -24,14 +24,17 @@ pub record HeightGrid : Type 0 where
 abbrev pub place_height : HeightGrid → ℕ → ℕ → Option ℤ
 place_height grid row column = slice_index_or grid.heights (row * grid.cols + column) None
 
--- along an axis, the centre of the place with so many places before it, from west or south
+-- along an axis, the centre of the place with so many places before it, from west or south; half a
+-- unit is rounded down
 abbrev pub centre_along : Coordinate → ℕ → ℕ → ℤ
 centre_along (corner edge) spacing before = edge +ℤ pos ((2 * before + 1) * spacing / 2)
 centre_along (centre first) spacing before = first +ℤ pos (before * spacing)
 
+-- the longitude of the centres of a column, counted from 0 in the west
 abbrev pub centre_x : HeightGrid → ℕ → ℤ
 centre_x grid column = centre_along grid.x grid.spacing column
 
+-- the latitude of the centres of a row, counted from 0 in the north
 abbrev pub centre_y : HeightGrid → ℕ → ℤ
 centre_y grid row = centre_along grid.y grid.spacing (grid.rows - 1 - row)
 
@@ -39,14 +42,15 @@ centre_y grid row = centre_along grid.y grid.spacing (grid.rows - 1 - row)
 abbrev pub most_places : ℕ
 most_places = 4_000_000
 
--- so many metres, in millimetres
+-- so many metres, in millimetres: the unit of heights
 abbrev pub metres : ℕ → ℤ
 metres n = pos (n * 1000)
 
--- a full turn either way
+-- from -360 to 360 degrees
 abbrev pub IsDegrees : ℤ → Type 0
 IsDegrees = IsBetween (neg_ℤ (degrees 360)) (degrees 360)
 
+-- the coordinate that is given, of corner or centre, is at most a full turn either way
 abbrev pub IsCoordinate : Coordinate → Type 0
 IsCoordinate (corner edge) = IsDegrees edge
 IsCoordinate (centre first) = IsDegrees first

@@ -57,12 +57,12 @@ pub record Layout : Type 0 where
   pub spacing : ℕ
   pub missing : Class
 
--- a token that begins a height ends the header: it begins with a digit, `+`, `-` or `.`, or is
--- `nan`
+-- the token begins with a digit, `+`, `-` or `.`
 abbrev pub begins_number : List ℕ → Bool
 begins_number [] = false
 begins_number (byte ∷ bytes) = is_ascii_digit byte || byte == 43 || byte == 45 || byte == 46
 
+-- a token with which the heights begin: it begins as a number does, or is `nan` in any case
 abbrev pub begins_height : List ℕ → Bool
 begins_height bytes = begins_number bytes || is_nan bytes
 
@@ -95,9 +95,11 @@ abbrev pub new_word : Header → ℕ → Option Name → Result Name HeightFault
 new_word met place None = Err (UnknownWord place)
 new_word met place (Some word) = if is_met met word then Err (RepeatedWord place) else Ok word
 
+-- the word of the header that a token is; a fault if there is no such word or it was met before
 unfoldable pub word_at : Header → Token → Result Name HeightFault
 word_at met token = new_word met token.place (header_word token.bytes)
 
+-- a count from 1 to the most places, or the fault of the token at this place
 abbrev pub count_at : ℕ → ℕ → Result ℕ HeightFault
 count_at place n = if nat_le 1 n && nat_le n most_places then Ok n else Err (OutOfRange place)
 
@@ -126,10 +128,12 @@ coordinate_of token = degrees_of (neg_ℤ (degrees 360)) (degrees 360) token
 unfoldable pub spacing_of : Token → Result ℕ HeightFault
 spacing_of token = degrees_of (pos 1) (degrees 10) token >>= λ n. Ok (nat_abs n)
 
+-- the class of the token at this place; a fault if it is neither a number nor `nan`
 abbrev pub class_or_fault : ℕ → Option Class → Result Class HeightFault
 class_or_fault place None = Err (BadNumber place)
 class_or_fault place (Some class) = Ok class
 
+-- the class that the value of NODATA_value has; all heights of this class are gaps
 abbrev pub nodata_of : Token → Result Class HeightFault
 nodata_of token = class_or_fault token.place (class_of token.bytes)
 
@@ -150,6 +154,7 @@ pub record Headed : Type 0 where
   pub header : Header
   pub heights : List Token
 
+-- the words met, and the tokens from the first height on
 abbrev pub headed : Header → List Token → Headed
 headed header heights = record { header = header; heights = heights }
 
@@ -165,10 +170,12 @@ header_of end met (word ∷ given ∷ rest) =
     >>= λ name. with_value met name given
     >>= λ more. header_of end more rest)
 
+-- the value of a word that may not be left out
 abbrev pub needed : {A : Type 0} → Word → Option A → Result A HeightFault
 needed word None = Err (MissingWord word)
 needed word (Some given) = Ok given
 
+-- a layout that does not have too many places
 abbrev pub within_places : Layout → Result Layout HeightFault
 within_places layout =
     if nat_le (layout.cols * layout.rows) most_places then Ok layout else Err TooMany

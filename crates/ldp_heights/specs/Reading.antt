@@ -38,6 +38,7 @@ heights_from missing places found (token ∷ rest) =
 abbrev pub heights_under : Layout → List Token → Result (List (Option ℤ)) HeightFault
 heights_under layout tokens = heights_from layout.missing (layout.cols * layout.rows) 0 tokens
 
+-- the grid that a layout and the heights of its places make
 abbrev pub grid_with : Layout → List (Option ℤ) → HeightGrid
 grid_with layout heights = record {
   rows = layout.rows;

@@ -17,16 +17,19 @@ use Rattle.ldp_heights.specs.declared.stage.Stage.{Stage as HeldStage}
 use Rattle.ldp_heights.specs.declared.stage.Stage.TheVariants as held_stage
 use Rattle.ldp_heights.specs.declared.fault.HeightFault.{HeightFault}
 
+-- a coordinate that the code holds, as the definitions name it
 abbrev pub coordinate_seen : HeldCoordinate → Coordinate
 coordinate_seen (Corner edge) = corner edge
 coordinate_seen (Centre first) = centre first
 
+-- a class that the code holds, as the definitions name it
 abbrev pub class_seen : HeldClass → Class
 class_seen Nan = nan
 class_seen (Millimetres n) = millimetres n
 class_seen TooHigh = too_high
 class_seen TooLow = too_low
 
+-- a word of the header that the code holds, as the definitions name it
 abbrev pub name_seen : HeaderWord → Name
 name_seen held.Ncols = ncols
 name_seen held.Nrows = nrows
@@ -37,6 +40,7 @@ name_seen held.YllCenter = yllcenter
 name_seen held.Cellsize = cellsize
 name_seen held.NodataValue = nodata_value
 
+-- the values of the header that the code has met, as the definitions name them
 abbrev pub header_seen : HeldHeader → Header
 header_seen met = record {
   ncols = met.ncols;
@@ -47,6 +51,7 @@ header_seen met = record {
   nodata = option_map class_seen met.nodata;
 }
 
+-- a layout that the code holds, as the definitions name it
 abbrev pub layout_seen : HeldLayout → Layout
 layout_seen layout = record {
   cols = layout.cols;
@@ -62,6 +67,7 @@ abbrev pub result_seen : {A B : Type 0} → (A → B) → Result A HeightFault �
 result_seen see (Ok held_value) = Ok (see held_value)
 result_seen see (Err fault) = Err fault
 
+-- where the reader stands, with the heights that it has read so far
 abbrev pub stage_seen : HeldStage → List (Option ℤ) → Stage
 stage_seen (held_stage.Word met) heights = at_word (header_seen met)
 stage_seen (held_stage.Value met word) heights = at_value (header_seen met) (name_seen word)

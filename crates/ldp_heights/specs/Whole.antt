@@ -22,6 +22,7 @@ pub record Pair : Type 0 where
   pub word : Token
   pub value : Token
 
+-- the tokens of some pairs, each word before its value
 abbrev pub pair_tokens : List Pair → List Token
 pair_tokens [] = []
 pair_tokens (pair ∷ pairs) = pair.word ∷ pair.value ∷ pair_tokens pairs
@@ -65,6 +66,7 @@ pub record IsPairOf (header : Header) (pair : Pair) : Type 0 where
   pub word : str_to_ascii_lowercase pair.word.bytes ≡ small_letters pair.name
   pub value : Gives pair.name pair.value header
 
+-- whether two words of the header are one
 abbrev pub same_word : Word → Word → Bool
 same_word Ncols Ncols = true
 same_word Nrows Nrows = true
@@ -74,6 +76,7 @@ same_word Cellsize Cellsize = true
 same_word Nodata Nodata = true
 same_word _ _ = false
 
+-- whether a word is one of a list
 abbrev pub is_among : Word → List Word → Bool
 is_among word words = list_any (λ other. same_word word other) words
 

@@ -16,6 +16,7 @@ pub enum Class {
 }
 
 impl Class {
+    /// Whether both are one class; two numbers are if their millimetres are equal.
     pub fn is_same(self, other: Class) -> bool
         ensures { result ≡ same_class (class_seen self) (class_seen other) }
     {

@@ -31,6 +31,7 @@ pub struct Header {
 const MISSING: i32 = -9_999_000;
 
 impl Header {
+    /// A header of which no word was met.
     pub fn empty() -> Self
         ensures value { header_seen result ≡ no_words }
         ensures range { AreInRange (header_seen result) }

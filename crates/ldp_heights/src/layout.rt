@@ -22,6 +22,7 @@ pub struct Layout {
 }
 
 impl Layout {
+    /// The number of places, rows times columns.
     pub fn places(&self) -> usize
         requires { IsLayout (layout_seen self.now) }
         ensures value { result ≡ self.now.cols * self.now.rows }

@@ -52,6 +52,7 @@ impl Reading {
         }
     }
 
+    /// Whether the header has ended or a fault was met.
     pub fn is_started(&self) -> bool
         ensures { result ≡ is_started self.now.sofar }
     {

@@ -139,9 +139,12 @@ joint_formula given = do
   distortion ← # k *ᶠ # given.factor -ᶠ whole 1
   answer (distortion ∷ [])
 
+-- the steps at a cell, from its latitude, longitude and height number
 abbrev pub cell_list : StepList
 cell_list = list_of 3 (cell_formula 0 1 2)
 
+-- the steps of a design, from its centre, azimuth and scale factor; true is for centres south of
+-- the equator
 abbrev pub design_list : Bool → StepList
 design_list south = list_of 4 (design_formula south 0 1 2 3)
 
@@ -161,6 +164,7 @@ given = record {
   factor = 10;
 }
 
+-- the steps to the distortion, from the results of a design and those at a cell
 abbrev pub joint_list : StepList
 joint_list = list_of 11 (joint_formula given)
 

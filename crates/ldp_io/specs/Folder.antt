@@ -17,6 +17,7 @@ pub record Folder : Type 0 where
   pub piece : ℕ
   pub rest : List ℕ
 
+-- the file has this name, byte for byte
 abbrev pub is_named : List ℕ → File → Bool
 is_named name file = bytes_eq file.name name
 

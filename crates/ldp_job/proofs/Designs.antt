@@ -4,7 +4,8 @@ use Rattle.std.proofs.Common.{codes, Some, refl, subst, arith}
 use Rattle.ldp_design.specs.declared.design.Design.{Design}
 use Rattle.ldp_job.specs.Values.{IsDesign}
 use Rattle.ldp_job.specs.Texts.{design_words}
-use Rattle.ldp_job.specs.Lines.{most, design_in}
+use Rattle.ldp_job.specs.Lines.{design_in}
+use Rattle.ldp_job.specs.Values.{most}
 use Rattle.ldp_job.proofs.Taken.{IsRead, name_step, number_step, last_found}
 use Rattle.ldp_job.proofs.Taken.{number_again, and_then}
 

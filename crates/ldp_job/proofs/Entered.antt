@@ -3,7 +3,7 @@ use Rattle.std.proofs.Common.{◌≡◌, ℕ, ◌≤◌, lit≤, true, List, [],
 use Rattle.std.proofs.Common.{IfSome, Option, Some, None, refl, sym, ap, subst, ◌∙◌, inl, inr}
 use Rattle.std.proofs.Common.{arith}
 use Rattle.std.specs.Prelude.{bytes_eq}
-use Rattle.ldp_spelling.specs.Numbers.{limit}
+use Rattle.ldp_num.specs.Number.{limit}
 use Rattle.ldp_spelling.specs.Pieces.{words, line_of}
 use Rattle.ldp_spelling.proofs.Pieces.{line_is_words}
 use Rattle.ldp_design.specs.declared.axis.AxisName.{AxisName}
@@ -12,16 +12,16 @@ use Rattle.ldp_design.specs.declared.node.Node.{Node}
 use Rattle.ldp_design.specs.declared.node.Node.TheVariants.{Tree, Split, Leaf, Unusable}
 use Rattle.ldp_design.specs.Forests.{is_node}
 use Rattle.ldp_job.specs.Words.{◌>>=◌, last_in}
-use Rattle.ldp_job.specs.Values.{IsEntry}
-use Rattle.ldp_job.specs.Texts.{axis_text, entry_words}
-use Rattle.ldp_job.specs.Lines.{most}
-use Rattle.ldp_job.specs.Entries.{axis_of, last_number_in, leaf_in, split_in, unusable_in, tree_in}
+use Rattle.ldp_job.specs.Values.{most, IsEntry}
+use Rattle.ldp_job.specs.Texts.{entry_words}
+use Rattle.ldp_design.specs.Words.{axis_text, axis_named}
+use Rattle.ldp_job.specs.Entries.{last_number_in, leaf_in, split_in, unusable_in, tree_in}
 use Rattle.ldp_job.specs.Entries.{entry_in, may_stand, standing, is_node_line}
 use Rattle.ldp_job.proofs.Taken.{IsRead, TakesNumber, bind_some, number_step, word_step, last_found}
 use Rattle.ldp_job.proofs.Taken.{number_again, word_again, if_cases, if_is, same_word}
 use Rattle.ldp_job.proofs.Taken.{inside}
 
-axis_found : (w : List ℕ) (a : AxisName) → axis_of w ≡ Some a → w ≡ axis_text a
+axis_found : (w : List ℕ) (a : AxisName) → axis_named w ≡ Some a → w ≡ axis_text a
 axis_found w a e =
     elim (if_cases (bytes_eq w (codes "lat")) _ _ a e) [
       | inl hit ↦ same_word w (codes "lat") hit.0 ∙ ap axis_text (inside Lat a hit.1)
@@ -36,7 +36,7 @@ axis_found w a e =
       ]
     ]
 
-axis_again : (a : AxisName) → axis_of (axis_text a) ≡ Some a
+axis_again : (a : AxisName) → axis_named (axis_text a) ≡ Some a
 axis_again Lat = refl
 axis_again Lon = refl
 axis_again Azimuth = refl
@@ -68,7 +68,7 @@ last_again low high n small above below =
 split_found : (w : List ℕ) (ws : List (List ℕ)) (n : Node) → w ≡ codes "s" → split_in ws ≡ Some n
     → IsRead entry_words IsEntry (w ∷ ws) n
 split_found w ws n name e =
-    let axis = word_step axis_of ws _ n e in
+    let axis = word_step axis_named ws _ n e in
     let cut = number_found 0 most axis.0.1 _ n axis.4 in
     subst (λ x. IsRead entry_words IsEntry (w ∷ ws) x) (inside (Split axis.0.0 cut.0) n cut.2)
     record {
@@ -131,7 +131,7 @@ unfolding entry_in
 entry_again (Tree family) h =
     ap (λ o. o >>= (λ family. Some (Tree family))) (last_again 1 65535 family (lit≤ tt) h.0 h.1)
 entry_again (Split axis cut) h =
-    word_again axis_of (axis_text axis) (decimal cut ∷ []) axis _ (Split axis cut) (axis_again axis)
+    word_again axis_named (axis_text axis) (decimal cut ∷ []) axis _ (Split axis cut) (axis_again axis)
     (ap (λ o. o >>= (λ cut. Some (Split axis cut)))
     (last_again 0 most cut (lit≤ tt) (omega arith) h))
 entry_again (Leaf cell) h =

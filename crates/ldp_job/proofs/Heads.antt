@@ -8,7 +8,8 @@ use Rattle.std.proofs.lemmas.Int.{ints}
 use Rattle.hex.specs.Hex.{encode_lower}
 use Rattle.ldp_decimal.specs.Writing.{decimal_text, trimmed_text}
 use Rattle.ldp_quantity.specs.Between.{IsBetween}
-use Rattle.ldp_spelling.specs.Numbers.{limit, whole_in, trimmed_in, fixed_in}
+use Rattle.ldp_num.specs.Number.{limit}
+use Rattle.ldp_spelling.specs.Numbers.{whole_in, trimmed_in, fixed_in}
 use Rattle.ldp_spelling.specs.Hashes.{hash_in, IsHash}
 use Rattle.ldp_spelling.proofs.Written.{whole_found, whole_again, trimmed_found, trimmed_again}
 use Rattle.ldp_spelling.proofs.Written.{fixed_found, fixed_again}
@@ -17,10 +18,13 @@ use Rattle.ldp_design.specs.declared.family.Kind.{Kind}
 use Rattle.ldp_design.specs.declared.family.Kind.TheVariants.{Tm, Lambert, Hotine, Lambert2}
 use Rattle.ldp_job.specs.declared.share.Share.{Share}
 use Rattle.ldp_job.specs.Words.{◌>>=◌, last_in, named_in}
-use Rattle.ldp_job.specs.Values.{IsCount, IsWorst, IsShare, most_tolerance}
-use Rattle.ldp_job.specs.Texts.{kind_text, share_words, worst_words}
-use Rattle.ldp_job.specs.Lines.{most, version_in, share_in, share_after, worst_in, kind_of, at_in}
+use Rattle.ldp_design.specs.Limits.{most_tolerance}
+use Rattle.ldp_job.specs.Values.{IsCount, IsWorst, IsShare}
+use Rattle.ldp_job.specs.Texts.{share_words, worst_words}
+use Rattle.ldp_job.specs.Lines.{version_in, share_in, share_after, worst_in, at_in}
 use Rattle.ldp_job.specs.Lines.{cells_in}
+use Rattle.ldp_job.specs.Values.{most}
+use Rattle.ldp_design.specs.Words.{kind_text, kind_named}
 use Rattle.ldp_job.proofs.Taken.{IsRead, bind_some, name_step, number_step, last_found}
 use Rattle.ldp_job.proofs.Taken.{number_again, named_found, named_again, and_then, if_cases, if_is}
 use Rattle.ldp_job.proofs.Taken.{same_word, inside}
@@ -64,12 +68,12 @@ share_found ws s e =
     let a = name_step (codes "over") ws _ s e in
     let over = number_step 0 most a.0 _ s a.2 in
     let b = name_step (codes "beyond") over.0.1 _ s over.2 in
-    let tolerance = number_step 0 1000000000000000 b.0 _ s b.2 in
+    let tolerance = number_step 0 most_tolerance b.0 _ s b.2 in
     let end = last_found _ s tolerance.0.1 tolerance.2 in
     subst (λ x. IsRead (λ y. share_words (Some y)) IsShare ws x) end.1 record {
       valid = record {
         over = over.1.below;
-        tolerance = between_pos 1000000000000000 tolerance.0.0 tolerance.1.below;
+        tolerance = between_pos most_tolerance tolerance.0.0 tolerance.1.below;
       };
       same = and_then a.1
           (and_then over.1.spelled (and_then b.1 (and_then tolerance.1.spelled end.0)));
@@ -91,10 +95,10 @@ share_again : (s : Share) → IsShare s → share_in (share_words (Some s)) ≡ 
 unfolding share_in
 share_again s h =
     number_again 0 most s.over _ _ s (lit≤ tt) (omega arith) h.over
-    (number_again 0 1000000000000000 (unsigned_abs s.tolerance) _ _ s (lit≤ tt) (omega arith)
-    (below_pos 1000000000000000 s.tolerance h.tolerance)
+    (number_again 0 most_tolerance (unsigned_abs s.tolerance) _ _ s (lit≤ tt) (omega arith)
+    (below_pos most_tolerance s.tolerance h.tolerance)
     (ap (λ (t : ℤ). last_in {A = Share} record { over = s.over; tolerance = t } [])
-    (sym (positive most_tolerance s.tolerance h.tolerance))))
+    (sym (positive (pos most_tolerance) s.tolerance h.tolerance))))
 
 share_after_again : (share : Option Share) → IfSome share IsShare
     → share_after (share_words share) ≡ Some share
@@ -133,7 +137,7 @@ worst_again o h =
     (ap (λ s. s >>= (λ share. Some (pos (unsigned_abs o.0), share))) (share_after_again o.1 h.1)
     ∙ ap (λ z. Some (z, o.1)) (sym (positive (pos limit) o.0 h.0)))
 
-kind_of_found : (w : List ℕ) (k : Kind) → kind_of w ≡ Some k → w ≡ kind_text k
+kind_of_found : (w : List ℕ) (k : Kind) → kind_named w ≡ Some k → w ≡ kind_text k
 kind_of_found w k e =
     elim (if_cases (bytes_eq w (codes "tm")) _ _ k e) [
       | inl hit ↦ same_word w (codes "tm") hit.0 ∙ ap kind_text (inside Tm k hit.1)
@@ -148,7 +152,7 @@ kind_of_found w k e =
       ]
     ]
 
-kind_of_again : (k : Kind) → kind_of (kind_text k) ≡ Some k
+kind_of_again : (k : Kind) → kind_named (kind_text k) ≡ Some k
 kind_of_again Tm = refl
 kind_of_again Lambert = refl
 kind_of_again Hotine = refl
@@ -160,18 +164,18 @@ kind_words k = codes "kind" ∷ kind_text k ∷ []
 abbrev pub Always : {A : Type 0} → A → Type 0
 Always a = Unit {0}
 
-pub kind_found : (ws : List (List ℕ)) (k : Kind) → named_in (codes "kind") kind_of ws ≡ Some k
+pub kind_found : (ws : List (List ℕ)) (k : Kind) → named_in (codes "kind") kind_named ws ≡ Some k
     → IsRead kind_words Always ws k
 kind_found ws k e =
-    let found = named_found (codes "kind") kind_of ws k e in
+    let found = named_found (codes "kind") kind_named ws k e in
     record {
       valid = tt;
       same = found.1
           ∙ ap (λ w. codes "kind" ∷ w ∷ []) (kind_of_found found.0 k found.2);
     }
 
-pub kind_again : (k : Kind) → named_in (codes "kind") kind_of (kind_words k) ≡ Some k
-kind_again k = named_again (codes "kind") kind_of (kind_text k) k (kind_of_again k)
+pub kind_again : (k : Kind) → named_in (codes "kind") kind_named (kind_words k) ≡ Some k
+kind_again k = named_again (codes "kind") kind_named (kind_text k) k (kind_of_again k)
 
 -- a name and a trimmed number
 abbrev pub trimmed_words : List ℕ → ℕ → ℤ → List (List ℕ)

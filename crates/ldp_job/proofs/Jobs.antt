@@ -7,6 +7,7 @@ use Rattle.std.proofs.lemmas.Bool.Decides.{nat_tests}
 use Rattle.ldp_quantity.specs.Quantity.{degrees, tenths}
 use Rattle.ldp_quantity.specs.Between.{IsBetween}
 use Rattle.ldp_quantity.specs.Results.{◌>>=◌}
+use Rattle.ldp_spelling.specs.Texts.{Words}
 use Rattle.ldp_spelling.specs.Hashes.{IsHash}
 use Rattle.ldp_spelling.specs.Pieces.{lines, words, line_of}
 use Rattle.ldp_spelling.proofs.Pieces.{line_is_words, lines_again, text_is_lines}
@@ -20,12 +21,13 @@ use Rattle.ldp_job.specs.declared.report.Report.{Report}
 use Rattle.ldp_job.specs.declared.share.Share.{Share}
 use Rattle.ldp_job.specs.declared.job.Job.{Job}
 use Rattle.ldp_job.specs.Values.{AreNames, IsDesign, IsWorst, IsReport, AreEntries, IsJob}
-use Rattle.ldp_job.specs.Texts.{Words, version_number, version_words, names_words, design_words}
+use Rattle.ldp_job.specs.Texts.{version_number, version_words, names_words, design_words}
 use Rattle.ldp_job.specs.Texts.{worst_words, report_words, forest_words, job_words, job_text}
-use Rattle.ldp_job.specs.Lines.{most, version_in, file_in, design_in, worst_in, kind_in, lat_in}
+use Rattle.ldp_job.specs.Lines.{version_in, file_in, design_in, worst_in, kind_in, lat_in}
 use Rattle.ldp_job.specs.Lines.{lon_in, azimuth_in, scale_in, ppm_in, at_in, cells_in, nodes_in}
 use Rattle.ldp_job.specs.Faults.{Lines}
 use Rattle.ldp_job.specs.Entries.{forest_at}
+use Rattle.ldp_job.specs.Values.{most}
 use Rattle.ldp_job.specs.Reading.{known, version_as, version_line, hashes_at, names_at, report_at}
 use Rattle.ldp_job.specs.Reading.{design_number, closed_by, whole_forest_at, parts_at, job_of, job}
 use Rattle.ldp_job.specs.Reading.{IsTextOf}

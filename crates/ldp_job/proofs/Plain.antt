@@ -8,7 +8,8 @@ use Rattle.std.proofs.lemmas.List.Folds.{list_all-append}
 use Rattle.hex.specs.Hex.{encode_lower}
 use Rattle.ldp_decimal.specs.Writing.{decimal_text, trimmed_text}
 use Rattle.ldp_quantity.specs.Between.{IsBetween}
-use Rattle.ldp_spelling.specs.Numbers.{limit}
+use Rattle.ldp_num.specs.Number.{limit}
+use Rattle.ldp_spelling.specs.Texts.{Words}
 use Rattle.ldp_spelling.specs.Hashes.{IsHash}
 use Rattle.ldp_spelling.specs.Pieces.{line_of, is_plain, is_line}
 use Rattle.ldp_spelling.proofs.Plain.{plain_decimal, plain_fixed, plain_trimmed, plain_hash}
@@ -25,9 +26,10 @@ use Rattle.ldp_job.specs.declared.share.Share.{Share}
 use Rattle.ldp_job.specs.declared.job.Job.{Job}
 use Rattle.ldp_job.specs.Values.{IsCount, IsWorst, IsShare, IsDesign, IsReport, AreNames}
 use Rattle.ldp_job.specs.Values.{IsEntry, AreEntries, IsJob}
-use Rattle.ldp_job.specs.Texts.{Words, version_words, names_words, design_words, share_words}
-use Rattle.ldp_job.specs.Texts.{worst_words, kind_text, axis_text, report_words, entry_words}
+use Rattle.ldp_job.specs.Texts.{version_words, names_words, design_words, share_words}
+use Rattle.ldp_job.specs.Texts.{worst_words, report_words, entry_words}
 use Rattle.ldp_job.specs.Texts.{forest_words, job_words}
+use Rattle.ldp_design.specs.Words.{axis_text, kind_text}
 use Rattle.ldp_job.proofs.Lined.{is_written}
 use Rattle.ldp_spelling.proofs.Pieces.{words_line}
 

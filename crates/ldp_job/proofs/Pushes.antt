@@ -6,15 +6,16 @@ use Rattle.std.specs.Prelude.{slice_get}
 use Rattle.std.specs.Int.{w128}
 use Rattle.std.proofs.lemmas.Int.{to_z-of_z, fits_signed_from_abs}
 use Rattle.std.proofs.lemmas.Option.{get_or_from_slice_get}
-use Rattle.std.proofs.lemmas.List.{append-nil, map-append, take_more, flat_map_more}
+use Rattle.std.proofs.lemmas.List.{append-nil, map-append, take_more}
 use Rattle.std.proofs.lemmas.Grind.{flat_map-append}
-use Rattle.ldp_spelling.specs.Numbers.{limit}
-use Rattle.ldp_spelling.specs.Pieces.{line_of, text_of}
+use Rattle.ldp_num.specs.Number.{limit}
+use Rattle.ldp_spelling.specs.Texts.{Words, line_text, lines_text}
+use Rattle.ldp_spelling.proofs.Texts.{text_is, line_more}
 use Rattle.ldp_design.specs.declared.node.Node.{Node}
 use Rattle.ldp_job.specs.declared.job.Job.{Job}
-use Rattle.ldp_job.specs.Texts.{Words, version_words, names_words, design_words, worst_words}
+use Rattle.ldp_job.specs.Texts.{version_words, names_words, design_words, worst_words}
 use Rattle.ldp_job.specs.Texts.{report_words, entry_words, forest_words, job_words, job_text}
-use Rattle.ldp_job.specs.Pushed.{line_text, lines_text, projection_words, cell_words}
+use Rattle.ldp_job.specs.Pushed.{projection_words, cell_words}
 
 five_pieces : (t a b c d e : List ℕ)
     → ((((t ++ a) ++ b) ++ c) ++ d) ++ e ≡ t ++ (a ++ (b ++ (c ++ (d ++ (e ++ [])))))
@@ -41,10 +42,6 @@ seven t0 t1 t2 t3 t4 t5 t6 t7 a b c d e f g h0 h1 h2 h3 h4 h5 h6 h7 =
 pub on_ok : {A E : Type 0} (r : Result A E) (P Q : Type 0) → (P → Q) → OnOk r P → OnOk r Q
 on_ok (Ok a) P Q f h = f h
 on_ok (Err e) P Q f h = h
-
-text_is : (lines : List Words) → text_of (map line_of lines) ≡ lines_text lines
-text_is [] = refl
-text_is (l ∷ ls) = ap (λ t. (line_of l ++ 10 ∷ []) ++ t) (text_is ls)
 
 -- the text of a job, by its parts
 pub parts_text : (j : Job) → line_text (version_words j.names) ++ (lines_text (names_words j.names)
@@ -79,9 +76,8 @@ entries_more fs i n t0 t1 t2 within found so_far pushed =
     ∙ ap (λ x. take i fs ++ x ∷ []) (get_or_from_slice_get fs i n n found) in
     let all : map entry_words (take (i + 1) fs) ≡ map entry_words (take i fs) ++ entry_words n
     ∷ [] = ap (map entry_words) next ∙ map-append entry_words (take i fs) (n ∷ []) in
-    pushed ∙ (ap (λ t. t ++ line_text (entry_words n)) so_far
-    ∙ (flat_map_more line_text t0 (map entry_words (take i fs)) (entry_words n)
-    ∙ ap (λ ws. t0 ++ lines_text ws) (sym all)))
+    line_more t0 t1 t2 (map entry_words (take i fs)) (map entry_words (take (i + 1) fs))
+    (entry_words n) so_far pushed all
 
 -- a number of a report is kept as it is
 pub held : (z : ℤ) → unsigned_abs z ≤ limit → to_z w128 (of_z w128 z) ≡ z

@@ -19,6 +19,7 @@ use Rattle.ldp_job.specs.Texts.{entry_words, forest_words}
 use Rattle.ldp_job.specs.Entries.{entry_in, may_stand, standing, is_over, is_end}
 use Rattle.ldp_job.specs.Entries.{pending_after, node_value, with_entry, entered, entry_step}
 use Rattle.ldp_job.specs.Entries.{forest_at}
+use Rattle.ldp_design.specs.Limits.{most_nodes}
 use Rattle.ldp_job.proofs.Taken.{same_word}
 use Rattle.ldp_job.proofs.Entered.{entry_again, standing_found, node_line, node_line_of}
 use Rattle.ldp_job.proofs.Lined.{inside_ok, words_are, is_written, ended_is}
@@ -177,9 +178,9 @@ no_end pending n = ap (λ t. pending == 0 && t) (other n) ∙ never (pending == 
 
 not_over : (nodes : ℕ) (n : Node) → nodes + node_value n ≤ 2000000
     → is_over nodes (line_of (entry_words n)) ≡ false
-not_over nodes n h = ap (λ t. t && nat_le 2_000_000 nodes) (node_line_of n) ∙ below (is_node n) refl
+not_over nodes n h = ap (λ t. t && nat_le most_nodes nodes) (node_line_of n) ∙ below (is_node n) refl
   where
-    below : (t : Bool) → is_node n ≡ t → (t && nat_le 2_000_000 nodes) ≡ false
+    below : (t : Bool) → is_node n ≡ t → (t && nat_le most_nodes nodes) ≡ false
     below false e = refl
     below true e = let one : node_value n ≡ 1 = rw e refl in let less : nodes < 2000000 =
         omega arith in grind (arith, nat_tests)

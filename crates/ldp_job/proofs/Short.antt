@@ -10,13 +10,15 @@ use Rattle.std.specs.Prelude.{Option, None, Some, IfSome, unsigned_abs, replicat
 use Rattle.ldp_decimal.specs.Writing.{sign, padded, pointed, onto_kept, without_zeros, whole_digits}
 use Rattle.ldp_decimal.specs.Writing.{further_digits, decimal_text, trimmed_text}
 use Rattle.ldp_spelling.specs.Pieces.{line_of, text_of}
-use Rattle.ldp_spelling.specs.Numbers.{limit}
+use Rattle.ldp_num.specs.Number.{limit}
 use Rattle.ldp_design.specs.declared.node.Node.{Node}
 use Rattle.ldp_design.specs.declared.node.Node.TheVariants.{Tree, Split, Leaf, Unusable}
-use Rattle.ldp_job.specs.Texts.{Words, job_text, job_words, entry_words, forest_words}
+use Rattle.ldp_design.specs.Words.{axis_text, kind_text}
+use Rattle.ldp_job.specs.Texts.{job_text, job_words, entry_words, forest_words}
 use Rattle.hex.specs.Hex.{encode_lower, lower_digits}
 use Rattle.hex.proofs.HexLemmas.{length-encode_with}
 use Rattle.ldp_quantity.specs.Between.{IsBetween}
+use Rattle.ldp_spelling.specs.Texts.{Words}
 use Rattle.ldp_spelling.specs.Hashes.{IsHash}
 use Rattle.ldp_design.specs.declared.axis.AxisName.{AxisName}
 use Rattle.ldp_design.specs.declared.axis.AxisName.TheVariants.{Lat, Lon, Azimuth, Scale}
@@ -26,7 +28,7 @@ use Rattle.ldp_design.specs.declared.design.Design.{Design}
 use Rattle.ldp_job.specs.declared.names.Names.{Names}
 use Rattle.ldp_job.specs.declared.report.Report.{Report}
 use Rattle.ldp_job.specs.declared.share.Share.{Share}
-use Rattle.ldp_job.specs.Texts.{axis_text, kind_text, names_words, design_words, share_words}
+use Rattle.ldp_job.specs.Texts.{names_words, design_words, share_words}
 use Rattle.ldp_job.specs.Texts.{version_words, worst_words, report_words}
 use Rattle.ldp_job.specs.Values.{IsEntry, AreEntries, AreNames, IsDesign, IsShare, IsReport}
 use Rattle.ldp_job.specs.Values.{IsWorst}

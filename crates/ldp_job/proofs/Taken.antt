@@ -3,7 +3,8 @@ use Rattle.std.proofs.Common.{◌≡◌, ℕ, ◌≤◌, Bool, true, false, List
 use Rattle.std.proofs.Common.{None, refl, ap, ◌∙◌, ◌⊎◌, inl, inr, if◌then◌else◌}
 use Rattle.std.specs.Prelude.{bytes_eq}
 use Rattle.std.proofs.lemmas.Slice.Eq.{bytes_eq-Decides}
-use Rattle.ldp_spelling.specs.Numbers.{limit, whole_in}
+use Rattle.ldp_num.specs.Number.{limit}
+use Rattle.ldp_spelling.specs.Numbers.{whole_in}
 use Rattle.ldp_spelling.proofs.Written.{whole_found, whole_again}
 use Rattle.ldp_job.specs.Words.{◌>>=◌, taken, word_in, number_in, name_in, last_in, lone_in}
 use Rattle.ldp_job.specs.Words.{named_in}

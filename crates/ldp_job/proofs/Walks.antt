@@ -14,6 +14,7 @@ use Rattle.ldp_job.specs.Faults.{Lines}
 use Rattle.ldp_job.specs.Entries.{entry_in, may_stand, standing, is_node_line, pending_after}
 use Rattle.ldp_job.specs.Entries.{is_over, is_end, node_value, with_entry, entry_step}
 use Rattle.ldp_job.specs.Entries.{forest_at}
+use Rattle.ldp_design.specs.Limits.{most_nodes}
 
 -- entries before those that are found
 abbrev pub with_front : List Node → Result (List Node × Lines) JobFault
@@ -104,8 +105,8 @@ few_more nodes value line n v over node few = by (is_node n) refl
     by false e = let none : value ≡ 0 = v ∙ rw e refl in omega arith
     by true e =
         let one : value ≡ 1 = v ∙ rw e refl in
-        let more : nat_le 2_000_000 nodes ≡ false =
-        ap (λ t. t && nat_le 2_000_000 nodes) (sym (node e)) ∙ over in
+        let more : nat_le most_nodes nodes ≡ false =
+        ap (λ t. t && nat_le most_nodes nodes) (sym (node e)) ∙ over in
         let below : nodes < 2000000 = grind (arith, nat_tests) in
         omega arith
 

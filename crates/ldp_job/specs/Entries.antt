@@ -3,41 +3,37 @@ use Rattle.std.specs.Prelude.{ℕ, ◌+◌, ◌-◌, ◌==◌, ◌&&◌, ◌||�
 use Rattle.std.specs.Prelude.{[], ◌∷◌, Option, Some, None, Result, Ok, Err, codes, bytes_eq}
 use Rattle.std.specs.Prelude.{if◌then◌else◌}
 use Rattle.ldp_spelling.specs.Pieces.{words}
-use Rattle.ldp_design.specs.declared.axis.AxisName.{AxisName}
-use Rattle.ldp_design.specs.declared.axis.AxisName.TheVariants.{Lat, Lon, Azimuth, Scale}
 use Rattle.ldp_design.specs.declared.node.Node.{Node}
 use Rattle.ldp_design.specs.declared.node.Node.TheVariants.{Tree, Split, Leaf, Unusable}
+use Rattle.ldp_design.specs.Limits.{most_nodes}
+use Rattle.ldp_design.specs.Words.{axis_named}
 use Rattle.ldp_design.specs.Forests.{is_node}
 use Rattle.ldp_job.specs.declared.fault.JobFault.{JobFault}
 use Rattle.ldp_job.specs.declared.fault.JobFault.TheVariants.{BadLine, TooManyNodes, Unended}
 use Rattle.ldp_job.specs.Words.{◌>>=◌, word_in, number_in, last_in}
-use Rattle.ldp_job.specs.Lines.{most}
+use Rattle.ldp_job.specs.Values.{most}
 use Rattle.ldp_job.specs.Faults.{Lines}
-
-abbrev pub axis_of : List ℕ → Option AxisName
-axis_of w =
-    if bytes_eq w (codes "lat") then Some Lat
-    else if bytes_eq w (codes "lon") then Some Lon
-    else if bytes_eq w (codes "azimuth") then Some Azimuth
-    else if bytes_eq w (codes "k0") then Some Scale
-    else None
 
 -- a number and no further word
 abbrev pub last_number_in : ℕ → ℕ → List (List ℕ) → Option ℕ
 last_number_in low high ws = number_in low high ws >>= (λ n. last_in n.0 n.1)
 
+-- the words behind `s`: an axis, and the last index of the low part
 abbrev pub split_in : List (List ℕ) → Option Node
 split_in ws = do
-  axis ← word_in axis_of ws
+  axis ← word_in axis_named ws
   cut ← last_number_in 0 most axis.1
   Some (Split axis.0 cut)
 
+-- the word behind `tree`: the number of a family, from 1
 abbrev pub tree_in : List (List ℕ) → Option Node
 tree_in ws = last_number_in 1 65535 ws >>= (λ family. Some (Tree family))
 
+-- the word behind `c`: the number of a cell, from 0
 abbrev pub leaf_in : List (List ℕ) → Option Node
 leaf_in ws = last_number_in 0 most ws >>= (λ cell. Some (Leaf cell))
 
+-- the word behind `u`: the number of a cell, from 0
 abbrev pub unusable_in : List (List ℕ) → Option Node
 unusable_in ws = last_number_in 0 most ws >>= (λ cell. Some (Unusable cell))
 
@@ -75,11 +71,13 @@ is_node_line (b ∷ d ∷ bs) = (b == 115 || b == 99 || b == 117) && d == 32
 
 -- the line of a node after the last that a job may have
 abbrev pub is_over : ℕ → List ℕ → Bool
-is_over nodes line = is_node_line line && nat_le 2_000_000 nodes
+is_over nodes line = is_node_line line && nat_le most_nodes nodes
 
+-- the line `end`, with no part of a tree to come
 abbrev pub is_end : ℕ → List ℕ → Bool
 is_end pending line = pending == 0 && bytes_eq line (codes "end")
 
+-- 1 for a node, and 0 for the line that begins a tree
 abbrev pub node_value : Node → ℕ
 node_value n = if is_node n then 1 else 0
 
@@ -89,11 +87,14 @@ abbrev pub with_entry : Node → Result (List Node × Lines) JobFault
 with_entry n (Ok found) = Ok (n ∷ found.0, found.1)
 with_entry n (Err fault) = Err fault
 
+-- an entry, and after it those of the lines that follow; a fault of the line with this number if it
+-- is none
 abbrev pub entered : ℕ → Option Node → (Node → Result (List Node × Lines) JobFault)
     → Result (List Node × Lines) JobFault
 entered number None more = Err (BadLine number)
 entered number (Some n) more = with_entry n (more n)
 
+-- one line of the forest: a node too many, the end, or an entry and what follows it
 unfoldable pub entry_step : ℕ → ℕ → ℕ → List ℕ → Lines
     → (Node → Result (List Node × Lines) JobFault) → Result (List Node × Lines) JobFault
 entry_step number nodes pending line rest more =

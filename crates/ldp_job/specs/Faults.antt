@@ -9,11 +9,12 @@ use Rattle.ldp_job.specs.declared.fault.JobFault.TheVariants.{BadLine, Unended}
 abbrev pub Lines : Type 0
 Lines = List (List ℕ)
 
--- a value, where the line with this number fits
+-- the value of the line with this number, and the lines left; a fault if it has none
 abbrev pub fitted : {A : Type 0} → ℕ → Lines → Option A → Result (A × Lines) JobFault
 fitted number rest None = Err (BadLine number)
 fitted number rest (Some a) = Ok (a, rest)
 
+-- a line that is read by its words; a fault if its line feed is missing
 abbrev pub line_as : {A : Type 0} → ℕ → (List (List ℕ) → Option A) → Option (List ℕ × Lines)
     → Result (A × Lines) JobFault
 line_as number read None = Err (Unended number)

@@ -1,19 +1,19 @@
 -- What the lines before the forest say.
-use Rattle.std.specs.Prelude.{ℕ, ℤ, pos, neg_ℤ, List, [], ◌∷◌, Option, Some, None, codes, bytes_eq}
-use Rattle.std.specs.Prelude.{if◌then◌else◌}
+use Rattle.std.specs.Prelude.{ℕ, ℤ, pos, neg_ℤ, List, [], ◌∷◌, Option, Some, None, codes}
 use Rattle.ldp_quantity.specs.Quantity.{degrees, tenths}
-use Rattle.ldp_spelling.specs.Numbers.{limit, whole_in, trimmed_in, fixed_in}
+use Rattle.ldp_num.specs.Number.{limit}
+use Rattle.ldp_spelling.specs.Numbers.{whole_in, trimmed_in, fixed_in}
 use Rattle.ldp_spelling.specs.Hashes.{hash_in}
 use Rattle.ldp_design.specs.declared.family.Kind.{Kind}
-use Rattle.ldp_design.specs.declared.family.Kind.TheVariants.{Tm, Lambert, Hotine, Lambert2}
+use Rattle.ldp_design.specs.declared.axis.AxisName.TheVariants.{Lat, Lon, Azimuth, Scale}
 use Rattle.ldp_design.specs.declared.design.Design.{Design}
+use Rattle.ldp_design.specs.Limits.{most_azimuth, most_tolerance}
+use Rattle.ldp_design.specs.Words.{axis_text, kind_named}
 use Rattle.ldp_job.specs.declared.share.Share.{Share}
+use Rattle.ldp_job.specs.Values.{most}
 use Rattle.ldp_job.specs.Words.{◌>>=◌, number_in, name_in, last_in, named_in}
 
--- the greatest index or count
-abbrev pub most : ℕ
-most = 4294967295
-
+-- the words `ldp job VERSION`, whatever the version is
 unfoldable pub version_in : List (List ℕ) → Option ℕ
 version_in ws = do
   a ← name_in (codes "ldp") ws
@@ -21,6 +21,8 @@ version_in ws = do
   version ← number_in 0 most b
   last_in version.0 version.1
 
+-- the words `design FAMILY LAT LON AZIMUTH K0`: the number of a family, from 1, and the index on
+-- each axis, from 0
 unfoldable pub design_in : List (List ℕ) → Option Design
 design_in ws = do
   a ← name_in (codes "design") ws
@@ -37,12 +39,13 @@ design_in ws = do
     scale = scale.0;
   } scale.1
 
+-- the words `over CELLS beyond TOLERANCE`, the tolerance in units of 10^-15 and at most 10^15
 unfoldable pub share_in : List (List ℕ) → Option Share
 share_in ws = do
   a ← name_in (codes "over") ws
   over ← number_in 0 most a
   b ← name_in (codes "beyond") over.1
-  tolerance ← number_in 0 1000000000000000 b
+  tolerance ← number_in 0 most_tolerance b
   last_in record { over = over.0; tolerance = pos tolerance.0 } tolerance.1
 
 -- a share, where words are left
@@ -50,6 +53,7 @@ unfoldable pub share_after : List (List ℕ) → Option (Option Share)
 share_after [] = Some None
 share_after (w ∷ ws) = share_in (w ∷ ws) >>= (λ share. Some (Some share))
 
+-- the words `worst VALUE`, the value in units of 10^-15, and a share if words are left
 unfoldable pub worst_in : List (List ℕ) → Option (ℤ × Option Share)
 worst_in ws = do
   a ← name_in (codes "worst") ws
@@ -57,32 +61,32 @@ worst_in ws = do
   share ← share_after worst.1
   Some (pos worst.0, share)
 
-abbrev pub kind_of : List ℕ → Option Kind
-kind_of w =
-    if bytes_eq w (codes "tm") then Some Tm
-    else if bytes_eq w (codes "lambert") then Some Lambert
-    else if bytes_eq w (codes "hotine") then Some Hotine
-    else if bytes_eq w (codes "lambert2") then Some Lambert2
-    else None
-
+-- the line `kind` with the name of a kind
 abbrev pub kind_in : List (List ℕ) → Option Kind
-kind_in ws = named_in (codes "kind") kind_of ws
+kind_in ws = named_in (codes "kind") kind_named ws
 
+-- the line `lat` with degrees from -80 to 80, in units of 10^-12 degrees
 abbrev pub lat_in : List (List ℕ) → Option ℤ
-lat_in ws = named_in (codes "lat") (trimmed_in 12 (neg_ℤ (degrees 80)) (degrees 80)) ws
+lat_in ws = named_in (axis_text Lat) (trimmed_in 12 (neg_ℤ (degrees 80)) (degrees 80)) ws
 
+-- the line `lon` with degrees from -180 to 360, in units of 10^-12 degrees
 abbrev pub lon_in : List (List ℕ) → Option ℤ
-lon_in ws = named_in (codes "lon") (trimmed_in 12 (neg_ℤ (degrees 180)) (degrees 360)) ws
+lon_in ws = named_in (axis_text Lon) (trimmed_in 12 (neg_ℤ (degrees 180)) (degrees 360)) ws
 
+-- the line `azimuth` with degrees from -85 to 85, in units of 10^-12 degrees; with two standard
+-- parallels the second
 abbrev pub azimuth_in : List (List ℕ) → Option ℤ
-azimuth_in ws = named_in (codes "azimuth") (trimmed_in 12 (neg_ℤ (degrees 85)) (degrees 85)) ws
+azimuth_in ws = named_in (axis_text Azimuth) (trimmed_in 12 (neg_ℤ most_azimuth) most_azimuth) ws
 
+-- the line `k0` with a scale factor from 0.5 to 2, in units of 10^-15
 abbrev pub scale_in : List (List ℕ) → Option ℤ
-scale_in ws = named_in (codes "k0") (trimmed_in 15 (tenths 5) (tenths 20)) ws
+scale_in ws = named_in (axis_text Scale) (trimmed_in 15 (tenths 5) (tenths 20)) ws
 
+-- the line `ppm` with the worst in parts per million and nine decimals, so in units of 10^-15
 abbrev pub ppm_in : List (List ℕ) → Option ℤ
 ppm_in ws = named_in (codes "ppm") (fixed_in 9 (pos 0) (pos limit)) ws
 
+-- the words `at ROW COLUMN`, both from 0, of the cell of the worst
 unfoldable pub at_in : List (List ℕ) → Option (ℕ × ℕ)
 at_in ws = do
   a ← name_in (codes "at") ws
@@ -90,6 +94,7 @@ at_in ws = do
   col ← number_in 0 most row.1
   last_in (row.0, col.0) col.1
 
+-- the words `cells COUNT missing COUNT`: the cells, and the places in the zone without a height
 unfoldable pub cells_in : List (List ℕ) → Option (ℕ × ℕ)
 cells_in ws = do
   a ← name_in (codes "cells") ws
@@ -98,9 +103,10 @@ cells_in ws = do
   missing ← number_in 0 most b
   last_in (cells.0, missing.0) missing.1
 
+-- the line `nodes` with the number of nodes of the forest
 abbrev pub nodes_in : List (List ℕ) → Option ℕ
 nodes_in ws = named_in (codes "nodes") (whole_in 0 most) ws
 
--- a line with the hash of a file
+-- the line of a file, with its hash in hexadecimal digits
 abbrev pub file_in : List ℕ → List (List ℕ) → Option (List ℕ)
 file_in name ws = named_in name hash_in ws

@@ -16,11 +16,13 @@ use Rattle.ldp_job.specs.Entries.{forest_at}
 use Rattle.ldp_job.specs.Texts.{job_text}
 use Rattle.ldp_job.specs.Values.{IsJob}
 
+-- a version that can be read, 1 or 2, and the lines left; a fault if it is another one or none
 abbrev pub known : Lines → Option ℕ → Result (ℕ × Lines) JobFault
 known rest None = Err NotAJob
 known rest (Some version) =
     if version == 1 || version == 2 then Ok (version, rest) else Err (Version version)
 
+-- the version of the first line, and the lines left; without such a line the text is no job
 abbrev pub version_as : Option (List ℕ × Lines) → Result (ℕ × Lines) JobFault
 version_as None = Err NotAJob
 version_as (Some line) = known line.1 (version_in (words line.0))
@@ -89,6 +91,7 @@ whole_forest_at number ls = do
   found ← forest_at number 0 0 ls
   closed_by number found.0 found.1
 
+-- all that follows the names, from the line `design` on, which has this number
 unfoldable pub parts_at : ℕ → Option Names → Lines → Result Job JobFault
 parts_at number names ls = do
   design ← line_by number design_in ls
@@ -104,6 +107,7 @@ parts_at number names ls = do
     forest = forest;
   }
 
+-- the job of all lines of a text, or their first fault
 abbrev pub job_of : Lines → Result Job JobFault
 job_of ls = do
   version ← version_line ls

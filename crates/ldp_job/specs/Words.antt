@@ -9,25 +9,26 @@ abbrev pub ◌>>=◌ : {A B : Type 0} → Option A → (A → Option B) → Opti
 None >>= f = None
 Some a >>= f = f a
 
+-- what was read of a word, and the words left; None if nothing was
 abbrev pub taken : {A : Type 0} → List (List ℕ) → Option A → Option (A × List (List ℕ))
 taken ws None = None
 taken ws (Some a) = Some (a, ws)
 
--- a word that is read so
+-- the first word, read by this reading
 abbrev pub word_in : {A : Type 0} → (List ℕ → Option A) → List (List ℕ) → Option (A × List (List ℕ))
 word_in read [] = None
 word_in read (w ∷ ws) = taken ws (read w)
 
--- a whole number from low to high
+-- the first word, a whole number from low to high
 abbrev pub number_in : ℕ → ℕ → List (List ℕ) → Option (ℕ × List (List ℕ))
 number_in low high ws = word_in (whole_in low high) ws
 
--- this very word
+-- the words behind the first one, if that is this name
 abbrev pub name_in : List ℕ → List (List ℕ) → Option (List (List ℕ))
 name_in name [] = None
 name_in name (w ∷ ws) = if bytes_eq w name then Some ws else None
 
--- the value, where no word is left
+-- the value, if no word is left
 abbrev pub last_in : {A : Type 0} → A → List (List ℕ) → Option A
 last_in a [] = Some a
 last_in a (w ∷ ws) = None

@@ -1,18 +1,14 @@
 ghost use Rattle.std.specs.Prelude.{◌≡◌, ◌≤◌, ◌<◌, IfSome};
 ghost use Rattle.ldp_spelling.specs.Pieces.{words};
-ghost use Rattle.ldp_spelling.specs.Numbers.{limit};
+ghost use Rattle.ldp_num.specs.Number.{limit};
 ghost use Rattle.ldp_job.specs.Entries.{last_number_in, leaf_in, unusable_in, tree_in, split_in};
 ghost use Rattle.ldp_job.specs.Entries.{entry_in, may_stand, standing, is_over, is_end};
 ghost use Rattle.ldp_job.specs.Entries.{pending_after, node_value};
 
-use crate::kind::axis_of;
 use crate::objective::MOST;
 use crate::word::{is, number};
-use ldp_design::Node;
+use ldp_design::{MOST_NODES, Node, axis_named};
 use ldp_spelling::Words;
-
-/// The greatest number of nodes of a forest.
-pub const MOST_NODES: u32 = 2_000_000;
 
 fn last_number(words: &mut Words<'_>, low: u64, high: u64) -> Option<u64>
     requires { high ≤ limit }
@@ -26,7 +22,7 @@ fn last_number(words: &mut Words<'_>, low: u64, high: u64) -> Option<u64>
 fn split(words: &mut Words<'_>) -> Option<Node>
     ensures { result ≡ split_in words.old }
 {
-    let axis = axis_of(words.next()?)?;
+    let axis = axis_named(words.next()?)?;
     let cut = last_number(words, 0, MOST)? as u32;
     Some(Node::Split { axis, cut })
 }
@@ -76,7 +72,9 @@ fn may_stand(pending: u32, node: Node) -> bool
 {
     match node {
         Node::Tree { family: _ } => pending == 0,
-        _ => pending != 0,
+        Node::Split { axis: _, cut: _ } | Node::Leaf { cell: _ } | Node::Unusable { cell: _ } => {
+            pending != 0
+        }
     }
 }
 
@@ -100,6 +98,7 @@ pub fn is_over(nodes: u32, line: &[u8]) -> bool
     matches!(line, [b's' | b'c' | b'u', b' ', ..]) && nodes >= MOST_NODES
 }
 
+/// Whether the forest ends with this line: no part of a tree is to come, and it is `end`.
 pub fn is_end(pending: u32, line: &[u8]) -> bool
     ensures { result ≡ is_end pending line.now }
 {
@@ -124,6 +123,6 @@ pub fn node_value(node: Node) -> u32
 {
     match node {
         Node::Tree { family: _ } => 0,
-        _ => 1,
+        Node::Split { axis: _, cut: _ } | Node::Leaf { cell: _ } | Node::Unusable { cell: _ } => 1,
     }
 }

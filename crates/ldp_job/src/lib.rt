@@ -4,7 +4,6 @@
 mod entry;
 mod fault;
 mod job;
-mod kind;
 pub mod laws;
 mod line;
 mod names;

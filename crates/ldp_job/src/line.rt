@@ -1,18 +1,19 @@
 ghost use Rattle.std.specs.Prelude.{◌≡◌, ◌≤◌, ◌≤ℤ◌, ℤ, pos, neg_ℤ, None, Some, Ok, Err};
 ghost use Rattle.std.specs.Prelude.{MatchOption, MatchResult};
 ghost use Rattle.ldp_spelling.specs.Pieces.{words, ended};
-ghost use Rattle.ldp_spelling.specs.Numbers.{limit, trimmed_in, fixed_in, whole_in};
+ghost use Rattle.ldp_num.specs.Number.{limit};
+ghost use Rattle.ldp_spelling.specs.Numbers.{trimmed_in, fixed_in, whole_in};
 ghost use Rattle.ldp_spelling.specs.Hashes.{hash_in};
+ghost use Rattle.ldp_design.specs.Words.{axis_text};
 ghost use Rattle.ldp_job.specs.declared.fault.JobFault.TheVariants.{BadLine, Unended};
 ghost use Rattle.ldp_job.specs.Words.{named_in};
-ghost use Rattle.ldp_job.specs.Lines.{file_in, kind_in, at_in, cells_in, nodes_in, ppm_in, most};
+ghost use Rattle.ldp_job.specs.Lines.{file_in, kind_in, at_in, cells_in, nodes_in, ppm_in};
 ghost use Rattle.ldp_job.specs.Faults.{line_by};
 
 use crate::fault::JobFault;
-use crate::kind::kind_of;
 use crate::objective::{GREATEST, MOST};
 use crate::word::{lone_word, name, number};
-use ldp_design::Kind;
+use ldp_design::{AxisName, Kind, axis_text, kind_named};
 use ldp_spelling::{Lines, Words, read_fixed, read_hash, read_trimmed, read_whole};
 
 /// Takes the line with this number.
@@ -37,12 +38,12 @@ pub fn hash_line(lines: &mut Lines<'_>, number: u32, name: &[u8]) -> Result<[u8;
     }
 }
 
-/// A line with a trimmed number.
+/// A line with the trimmed number of an axis.
 #[tactic(auto, unfolding(crate::specs::Faults::line_by))]
 pub fn trimmed_line(
     lines: &mut Lines<'_>,
     number: u32,
-    name: &[u8],
+    axis: AxisName,
     places: u32,
     low: i128,
     high: i128,
@@ -50,11 +51,12 @@ pub fn trimmed_line(
     requires places { (1 ≤ places) × (places ≤ 15) }
     requires low { neg_ℤ (pos limit) ≤ℤ low }
     requires high { high ≤ℤ pos limit }
-    ensures { let read = named_in name.now (trimmed_in places low high) in
+    ensures { let read = named_in (axis_text axis) (trimmed_in places low high) in
         MatchResult result (λ z. line_by number read lines.old ≡ Ok (z, lines.new))
         (λ fault. line_by number read lines.old ≡ Err fault) }
 {
     let line = next_line(lines, number)?;
+    let name = axis_text(axis).as_bytes();
     match lone_word(line, name).and_then(|word| read_trimmed(word, places, low, high)) {
         Some(value) => Ok(value),
         None => Err(JobFault::BadLine(number)),
@@ -74,18 +76,20 @@ pub fn ppm_line(lines: &mut Lines<'_>, number: u32) -> Result<i128, JobFault>
     }
 }
 
+/// The line `kind`.
 #[tactic(auto, unfolding(crate::specs::Faults::line_by))]
 pub fn kind_line(lines: &mut Lines<'_>, number: u32) -> Result<Kind, JobFault>
     ensures { MatchResult result (λ kind. line_by number kind_in lines.old ≡ Ok (kind, lines.new))
         (λ fault. line_by number kind_in lines.old ≡ Err fault) }
 {
     let line = next_line(lines, number)?;
-    match lone_word(line, b"kind").and_then(|word| kind_of(word)) {
+    match lone_word(line, b"kind").and_then(|word| kind_named(word)) {
         Some(kind) => Ok(kind),
         None => Err(JobFault::BadLine(number)),
     }
 }
 
+/// The line `nodes`: the number of nodes of the forest.
 #[tactic(auto, unfolding(crate::specs::Faults::line_by))]
 pub fn nodes_line(lines: &mut Lines<'_>, number: u32) -> Result<u32, JobFault>
     ensures { MatchResult result (λ n. line_by number nodes_in lines.old ≡ Ok (n, lines.new))
@@ -129,6 +133,7 @@ fn cells(line: &[u8]) -> Option<(u32, u32)>
     }
 }
 
+/// The line `at`: row and column of the worst, both from 0.
 #[tactic(auto, unfolding(crate::specs::Faults::line_by))]
 pub fn at_line(lines: &mut Lines<'_>, number: u32) -> Result<(u32, u32), JobFault>
     ensures { MatchResult result (λ at. line_by number at_in lines.old ≡ Ok (at, lines.new))
@@ -138,6 +143,7 @@ pub fn at_line(lines: &mut Lines<'_>, number: u32) -> Result<(u32, u32), JobFaul
     at(line).ok_or(JobFault::BadLine(number))
 }
 
+/// The line `cells`: how many cells there are, and how many places in the zone lack a height.
 #[tactic(auto, unfolding(crate::specs::Faults::line_by))]
 pub fn cells_line(lines: &mut Lines<'_>, number: u32) -> Result<(u32, u32), JobFault>
     ensures { MatchResult result

@@ -7,17 +7,15 @@ use crate::fault::JobFault;
 use crate::line::next_line;
 use crate::share::Share;
 use crate::word::{name, number};
-use ldp_design::Design;
+use ldp_design::{Design, MOST_TOLERANCE};
+use ldp_num::LIMIT;
 use ldp_spelling::{Lines, Words};
 
 /// The greatest index or count.
 pub const MOST: u64 = 4_294_967_295;
 
 /// The greatest absolute distortion.
-pub const GREATEST: u64 = 10_000_000_000_000_000_000;
-
-/// A million parts per million.
-const TOLERANCE: u64 = 1_000_000_000_000_000;
+pub const GREATEST: u64 = LIMIT as u64;
 
 #[tactic(auto, unfolding(crate::specs::Lines::design_in))]
 fn design(line: &[u8]) -> Option<Design>
@@ -49,7 +47,7 @@ fn share(words: &mut Words<'_>) -> Option<Share>
     name(words, b"over")?;
     let over = number(words, 0, MOST)? as u32;
     name(words, b"beyond")?;
-    let tolerance = number(words, 0, TOLERANCE)? as i128;
+    let tolerance = number(words, 0, MOST_TOLERANCE)? as i128;
     if words.is_empty() {
         Some(Share { over, tolerance })
     } else {
@@ -78,6 +76,7 @@ fn worst(line: &[u8]) -> Option<(i128, Option<Share>)>
     Some((worst, share))
 }
 
+/// The line `design`: the family's number, from 1, and the index on each axis, from 0.
 #[tactic(auto, unfolding(crate::specs::Faults::line_by))]
 pub fn design_line(lines: &mut Lines<'_>, number: u32) -> Result<Design, JobFault>
     ensures { MatchResult result

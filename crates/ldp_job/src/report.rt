@@ -3,17 +3,12 @@ ghost use Rattle.ldp_job.specs.Reading.{report_at};
 
 use crate::fault::JobFault;
 use crate::line::{at_line, cells_line, kind_line, nodes_line, ppm_line, trimmed_line};
-use ldp_design::Kind;
+use ldp_design::{AxisName, GREATEST_AZIMUTH, Kind, LEAST_AZIMUTH};
 use ldp_quantity::{
     EASTMOST_LONGITUDE, GREATEST_SCALE, HIGHEST_LATITUDE, LEAST_SCALE, LOWEST_LATITUDE,
     WESTMOST_LONGITUDE,
 };
 use ldp_spelling::Lines;
-
-/// The least and the greatest azimuth, in 10^-12 degrees.
-const LEAST_AZIMUTH: i128 = -85_000_000_000_000;
-
-const GREATEST_AZIMUTH: i128 = 85_000_000_000_000;
 
 /// What a user reads of a design and of its worst cell.
 #[derive(Clone, Copy, Debug, PartialEq, Eq)]
@@ -49,7 +44,7 @@ pub fn report_lines(lines: &mut Lines<'_>, number: u32) -> Result<Report, JobFau
     let lat = trimmed_line(
         lines,
         number + 1,
-        b"lat",
+        AxisName::Lat,
         12,
         LOWEST_LATITUDE,
         HIGHEST_LATITUDE,
@@ -57,7 +52,7 @@ pub fn report_lines(lines: &mut Lines<'_>, number: u32) -> Result<Report, JobFau
     let lon = trimmed_line(
         lines,
         number + 2,
-        b"lon",
+        AxisName::Lon,
         12,
         WESTMOST_LONGITUDE,
         EASTMOST_LONGITUDE,
@@ -65,12 +60,19 @@ pub fn report_lines(lines: &mut Lines<'_>, number: u32) -> Result<Report, JobFau
     let azimuth = trimmed_line(
         lines,
         number + 3,
-        b"azimuth",
+        AxisName::Azimuth,
         12,
         LEAST_AZIMUTH,
         GREATEST_AZIMUTH,
     )?;
-    let scale = trimmed_line(lines, number + 4, b"k0", 15, LEAST_SCALE, GREATEST_SCALE)?;
+    let scale = trimmed_line(
+        lines,
+        number + 4,
+        AxisName::Scale,
+        15,
+        LEAST_SCALE,
+        GREATEST_SCALE,
+    )?;
     let ppm = ppm_line(lines, number + 5)?;
     let (row, col) = at_line(lines, number + 6)?;
     let (cells, missing) = cells_line(lines, number + 7)?;

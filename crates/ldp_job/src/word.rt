@@ -1,10 +1,11 @@
 ghost use Rattle.std.specs.Prelude.{◌≡◌, ◌≤◌, None, Some, bytes_eq, MatchOption, IfSome};
 ghost use Rattle.ldp_spelling.specs.Pieces.{words};
-ghost use Rattle.ldp_spelling.specs.Numbers.{limit};
+ghost use Rattle.ldp_num.specs.Number.{limit};
 ghost use Rattle.ldp_job.specs.Words.{number_in, name_in, lone_in};
 
 use ldp_spelling::{Words, read_whole};
 
+/// Whether a word is this text, byte for byte.
 pub fn is(word: &[u8], text: &[u8]) -> bool
     ensures { result ≡ bytes_eq word.now text.now }
 {

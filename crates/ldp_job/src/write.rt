@@ -1,32 +1,23 @@
 ghost use Rattle.std.specs.Prelude.{◌≡◌, ◌≤◌, ◌++◌, [], ◌∷◌, ◌≤ℤ◌, pos, negsuc, map, take, length};
-ghost use Rattle.std.specs.Prelude.{decimal, OnOk, IfOk, IfSome};
+ghost use Rattle.std.specs.Prelude.{codes, decimal, OnOk, IfOk, IfSome};
 ghost use Rattle.ldp_decimal.specs.Writing.{trimmed_text};
-ghost use Rattle.ldp_spelling.specs.Numbers.{limit};
+ghost use Rattle.ldp_num.specs.Number.{limit};
+ghost use Rattle.ldp_spelling.specs.Texts.{line_text, lines_text};
+ghost use Rattle.ldp_design.specs.Words.{axis_text, kind_text};
 ghost use Rattle.ldp_job.specs.Values.{IsWorst, IsShare, IsReport, IsJob};
 ghost use Rattle.ldp_job.specs.Texts.{version_words, names_words, design_words, share_words};
 ghost use Rattle.ldp_job.specs.Texts.{worst_words, entry_words, forest_words, job_text};
-ghost use Rattle.ldp_job.specs.Pushed.{line_text, spaced, lines_text, projection_words};
-ghost use Rattle.ldp_job.specs.Pushed.{place_words, counts_words, cell_words};
+ghost use Rattle.ldp_job.specs.Pushed.{spaced, projection_words, place_words, counts_words};
+ghost use Rattle.ldp_job.specs.Pushed.{cell_words};
 
 use crate::job::Job;
-use crate::kind::{axis_text, kind_text};
 use crate::names::Names;
 use crate::report::Report;
 use crate::share::Share;
-use itoa::Buffer;
 use ldp_decimal::{Memory, Text, write_decimal, write_trimmed};
-use ldp_design::{Design, Forest, Node};
-use ldp_spelling::hash_digits;
+use ldp_design::{AxisName, Design, Forest, Kind, Node, axis_text, kind_text};
+use ldp_spelling::{hash_digits, push_whole};
 use std::alloc::Global;
-
-/// A space and a number.
-fn push_number(text: &mut Text, number: u64) -> Result<(), Memory>
-    ensures { OnOk result (text.new ≡ text.old ++ 32 ∷ decimal number) }
-{
-    let mut buffer = Buffer::new();
-    text.push(b" ")?;
-    text.push(buffer.format(number).as_bytes())
-}
 
 /// A line of a name and a word.
 fn push_named(text: &mut Text, name: &[u8], word: &[u8]) -> Result<(), Memory>
@@ -42,7 +33,7 @@ fn push_version(text: &mut Text, names: &Option<Names>) -> Result<(), Memory>
     ensures { OnOk result (text.new ≡ text.old ++ line_text (version_words names.now)) }
 {
     text.push(b"ldp job")?;
-    push_number(text, if names.is_some() { 2 } else { 1 })?;
+    push_whole(text, if names.is_some() { 2 } else { 1 })?;
     text.push(b"\n")
 }
 
@@ -67,11 +58,11 @@ fn push_design(text: &mut Text, design: &Design) -> Result<(), Memory>
     ensures { OnOk result (text.new ≡ text.old ++ line_text (design_words design.now)) }
 {
     text.push(b"design")?;
-    push_number(text, design.family as u64)?;
-    push_number(text, design.lat as u64)?;
-    push_number(text, design.lon as u64)?;
-    push_number(text, design.azimuth as u64)?;
-    push_number(text, design.scale as u64)?;
+    push_whole(text, design.family as u64)?;
+    push_whole(text, design.lat as u64)?;
+    push_whole(text, design.lon as u64)?;
+    push_whole(text, design.azimuth as u64)?;
+    push_whole(text, design.scale as u64)?;
     text.push(b"\n")
 }
 
@@ -84,9 +75,9 @@ fn push_share(text: &mut Text, share: &Option<Share>) -> Result<(), Memory>
         return Ok(());
     };
     text.push(b" over")?;
-    push_number(text, share.over as u64)?;
+    push_whole(text, share.over as u64)?;
     text.push(b" beyond")?;
-    push_number(text, share.tolerance.unsigned_abs() as u64)
+    push_whole(text, share.tolerance.unsigned_abs() as u64)
 }
 
 fn push_worst(text: &mut Text, worst: i128, share: &Option<Share>) -> Result<(), Memory>
@@ -95,16 +86,23 @@ fn push_worst(text: &mut Text, worst: i128, share: &Option<Share>) -> Result<(),
     ensures { OnOk result (text.new ≡ text.old ++ line_text (worst_words worst share.now)) }
 {
     text.push(b"worst")?;
-    push_number(text, worst.unsigned_abs() as u64)?;
+    push_whole(text, worst.unsigned_abs() as u64)?;
     push_share(text, share)?;
     text.push(b"\n")
 }
 
-/// A line of a name and a trimmed number.
+fn push_kind(text: &mut Text, kind: Kind) -> Result<(), Memory>
+    ensures { OnOk result
+        (text.new ≡ text.old ++ line_text (codes "kind" ∷ kind_text kind ∷ [])) }
+{
+    push_named(text, b"kind", kind_text(kind).as_bytes())
+}
+
+/// A line of an axis and its trimmed number.
 fn push_trimmed(
     alloc: Global,
     text: &mut Text,
-    name: &[u8],
+    axis: AxisName,
     value: i128,
     places: u32,
 ) -> Result<(), Memory>
@@ -112,10 +110,10 @@ fn push_trimmed(
     requires low { negsuc 9999999999999999999 ≤ℤ value }
     requires high { value ≤ℤ pos limit }
     ensures { OnOk result
-        (text.new ≡ text.old ++ line_text (name.now ∷ trimmed_text places value ∷ [])) }
+        (text.new ≡ text.old ++ line_text (axis_text axis ∷ trimmed_text places value ∷ [])) }
 {
     let word = write_trimmed(alloc, value, places)?;
-    push_named(text, name, word.bytes())
+    push_named(text, axis_text(axis).as_bytes(), word.bytes())
 }
 
 /// What the projection is.
@@ -123,19 +121,19 @@ fn push_projection(alloc: Global, text: &mut Text, report: &Report) -> Result<()
     requires { IsReport report.now }
     ensures { OnOk result (text.new ≡ text.old ++ lines_text (projection_words report.now)) }
 {
-    push_named(text, b"kind", kind_text(report.kind))?;
-    push_trimmed(alloc, text, b"lat", report.lat, 12)?;
-    push_trimmed(alloc, text, b"lon", report.lon, 12)?;
-    push_trimmed(alloc, text, b"azimuth", report.azimuth, 12)?;
-    push_trimmed(alloc, text, b"k0", report.scale, 15)
+    push_kind(text, report.kind)?;
+    push_trimmed(alloc, text, AxisName::Lat, report.lat, 12)?;
+    push_trimmed(alloc, text, AxisName::Lon, report.lon, 12)?;
+    push_trimmed(alloc, text, AxisName::Azimuth, report.azimuth, 12)?;
+    push_trimmed(alloc, text, AxisName::Scale, report.scale, 15)
 }
 
 fn push_place(text: &mut Text, report: &Report) -> Result<(), Memory>
     ensures { OnOk result (text.new ≡ text.old ++ line_text (place_words report.now)) }
 {
     text.push(b"at")?;
-    push_number(text, report.row as u64)?;
-    push_number(text, report.col as u64)?;
+    push_whole(text, report.row as u64)?;
+    push_whole(text, report.col as u64)?;
     text.push(b"\n")
 }
 
@@ -143,9 +141,9 @@ fn push_counts(text: &mut Text, report: &Report) -> Result<(), Memory>
     ensures { OnOk result (text.new ≡ text.old ++ line_text (counts_words report.now)) }
 {
     text.push(b"cells")?;
-    push_number(text, report.cells as u64)?;
+    push_whole(text, report.cells as u64)?;
     text.push(b" missing")?;
-    push_number(text, report.missing as u64)?;
+    push_whole(text, report.missing as u64)?;
     text.push(b"\n")
 }
 
@@ -159,7 +157,7 @@ fn push_cells(alloc: Global, text: &mut Text, report: &Report) -> Result<(), Mem
     push_place(text, report)?;
     push_counts(text, report)?;
     text.push(b"nodes")?;
-    push_number(text, report.nodes as u64)?;
+    push_whole(text, report.nodes as u64)?;
     text.push(b"\n")
 }
 
@@ -169,20 +167,20 @@ fn push_entry(text: &mut Text, node: Node) -> Result<(), Memory>
     match node {
         Node::Tree { family } => {
             text.push(b"tree")?;
-            push_number(text, family as u64)?;
+            push_whole(text, family as u64)?;
         }
         Node::Split { axis, cut } => {
             text.push(b"s ")?;
-            text.push(axis_text(axis))?;
-            push_number(text, cut as u64)?;
+            text.push(axis_text(axis).as_bytes())?;
+            push_whole(text, cut as u64)?;
         }
         Node::Leaf { cell } => {
             text.push(b"c")?;
-            push_number(text, cell as u64)?;
+            push_whole(text, cell as u64)?;
         }
         Node::Unusable { cell } => {
             text.push(b"u")?;
-            push_number(text, cell as u64)?;
+            push_whole(text, cell as u64)?;
         }
     }
     text.push(b"\n")

@@ -57,9 +57,11 @@ joint_formula given = do
   distortion ← # k *ᶠ # given.factor -ᶠ whole 1
   answer (distortion ∷ [])
 
+-- the steps at a cell, from its latitude, longitude and height number
 abbrev pub cell_list : StepList
 cell_list = list_of 3 (cell_formula 0 1 2)
 
+-- the steps of a design; of its four inputs they take the latitude and the scale factor
 abbrev pub design_list : StepList
 design_list = list_of 4 (design_formula 0 1 2 3)
 
@@ -67,8 +69,10 @@ design_list = list_of 4 (design_formula 0 1 2 3)
 abbrev pub given : Given
 given = record { n = 0; q1 = 1; m1 = 2; k0 = 3; m = 4; q = 5; factor = 6 }
 
+-- the steps to the distortion, from the results of a design and those at a cell
 abbrev pub joint_list : StepList
 joint_list = list_of 7 (joint_formula given)
 
+-- the lists of the Lambert projection with one standard parallel
 abbrev pub lambert : Lists
 lambert = record { cell = cell_list; design = design_list; joint = joint_list }

@@ -37,6 +37,8 @@ design_formula latitude longitude azimuth scale = do
   n ← cone_constant m1 q1 m2 q2
   answer (n ∷ q1 ∷ m1 ∷ scale ∷ [])
 
+-- the steps of a design; of its four inputs they take all but the longitude, and the third is the
+-- second parallel
 abbrev pub design_list : StepList
 design_list = list_of 4 (design_formula 0 1 2 3)
 

@@ -6,6 +6,7 @@ use Rattle.ldp_heights.specs.declared.fault.Word.TheVariants as words
 use Rattle.ldp_heights.specs.declared.fault.HeightFault.{HeightFault}
 use Rattle.ldp_heights.specs.declared.fault.HeightFault.TheVariants as faults
 
+-- a word of the header; both forms of a coordinate are one
 abbrev pub word_name : Word → List ℕ
 word_name words.Ncols = codes "Ncols"
 word_name words.Nrows = codes "Nrows"
@@ -14,6 +15,7 @@ word_name words.Y = codes "Y"
 word_name words.Cellsize = codes "Cellsize"
 word_name words.Nodata = codes "Nodata"
 
+-- a fault of heights, with the word, its place in bytes from 0, or the number of heights found
 abbrev pub height_fault_text : HeightFault → List ℕ
 height_fault_text (faults.MissingWord word) = codes "MissingWord " ++ word_name word
 height_fault_text (faults.UnknownWord place) = codes "UnknownWord " ++ decimal place

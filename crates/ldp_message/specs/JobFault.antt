@@ -4,6 +4,7 @@ use Rattle.std.specs.Prelude.{ℕ, List, ◌++◌, decimal, codes}
 use Rattle.ldp_job.specs.declared.fault.JobFault.{JobFault}
 use Rattle.ldp_job.specs.declared.fault.JobFault.TheVariants as faults
 
+-- a fault of a job, with the version, or with its line, counted from 1
 abbrev pub job_fault_text : JobFault → List ℕ
 job_fault_text faults.NotAJob = codes "NotAJob"
 job_fault_text (faults.Version number) = codes "Version " ++ decimal number

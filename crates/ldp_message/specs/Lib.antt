@@ -1,4 +1,4 @@
-pub mod Role
+pub mod FileRole
 pub mod HeightFault
 pub mod ZoneFault
 pub mod GridFault

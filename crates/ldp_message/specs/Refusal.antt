@@ -1,6 +1,6 @@
 -- How a refusal is told: its status, and its text on the error output. Own choice of this project.
 use Rattle.std.specs.Prelude.{ℕ, List, ◌++◌, decimal, codes, Result, Ok, Err}
-use Rattle.ldp_message.specs.Role.{role_name}
+use Rattle.ldp_message.specs.FileRole.{role_name}
 use Rattle.ldp_message.specs.ZoneFault.{zone_fault_text}
 use Rattle.ldp_message.specs.HeightFault.{height_fault_text}
 use Rattle.ldp_message.specs.GridFault.{grid_fault_text}
@@ -9,6 +9,8 @@ use Rattle.ldp_message.specs.CellsFault.{cells_fault_text}
 use Rattle.ldp_message.specs.declared.refusal.Refusal.{Refusal}
 use Rattle.ldp_message.specs.declared.refusal.Refusal.TheVariants as refusals
 
+-- the exit status: 4 for a fault of an input, 5 and 6 for a problem with no cell or no usable
+-- design, 7 for a spent budget, 10 for a file that is too long
 abbrev pub refusal_status : Refusal → ℕ
 refusal_status (refusals.RefusedZone fault) = 4
 refusal_status (refusals.RefusedHeights fault) = 4
@@ -20,6 +22,7 @@ refusal_status refusals.NoUsableDesign = 6
 refusal_status (refusals.BudgetSpent budget) = 7
 refusal_status (refusals.TooLong role) = 10
 
+-- the words on the error output, without the line feed
 abbrev pub refusal_text : Refusal → List ℕ
 refusal_text (refusals.TooLong role) = codes "too long " ++ role_name role
 refusal_text (refusals.RefusedZone fault) = codes "refused zone " ++ zone_fault_text fault

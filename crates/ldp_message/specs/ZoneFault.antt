@@ -4,6 +4,7 @@ use Rattle.std.specs.Prelude.{ℕ, List, ◌++◌, decimal, codes}
 use Rattle.ldp_zone.specs.declared.fault.ZoneFault.{ZoneFault}
 use Rattle.ldp_zone.specs.declared.fault.ZoneFault.TheVariants as faults
 
+-- a fault of a zone, with its place in bytes from 0, or the number of rings before it
 abbrev pub zone_fault_text : ZoneFault → List ℕ
 zone_fault_text (faults.NotAPolygon place) = codes "NotAPolygon " ++ decimal place
 zone_fault_text (faults.Measured place) = codes "Measured " ++ decimal place

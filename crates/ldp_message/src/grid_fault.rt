@@ -1,8 +1,9 @@
 ghost use Rattle.std.specs.Prelude.{◌≡◌, ◌≤◌, ◌+◌, ◌++◌, length};
-ghost use Rattle.ldp_message.specs.GridFault.{key_name, part_suffix, key_text, grid_fault_text};
+ghost use Rattle.ldp_message.specs.GridFault.{part_suffix, place_text, grid_fault_text};
 
 use crate::line::Line;
-use ldp_grids::{GridFault, Key, Part};
+use ldp_design::{Key, key_text};
+use ldp_grids::{GridFault, Part};
 
 /// Appends the text of a fault of design grids.
 pub fn push_grid_fault(line: &mut Line, fault: GridFault)
@@ -45,31 +46,12 @@ pub fn push_grid_fault(line: &mut Line, fault: GridFault)
 fn push_key(line: &mut Line, name: &[u8], family: u16, key: Key, part: Part)
     requires begun { length line.old ≤ 14 }
     requires room { length name.now + length (part_suffix part) ≤ 17 }
-    ensures text { line.new ≡ line.old ++ (name.now ++ key_text family key part) }
+    ensures text { line.new ≡ line.old ++ (name.now ++ place_text family key part) }
     ensures short { length line.new ≤ length line.old + 46 }
 {
     line.push_count(name, u64::from(family));
     line.push(b" ");
-    line.push_two(key_name(key), part_suffix(part));
-}
-
-fn key_name(key: Key) -> &'static [u8]
-    ensures name { result.now ≡ key_name key }
-    ensures short { length result.now ≤ 8 }
-{
-    match key {
-        Key::Top => b"top",
-        Key::Family => b"family",
-        Key::Kind => b"kind",
-        Key::Lat => b"lat",
-        Key::Lat2 => b"lat2",
-        Key::Lon => b"lon",
-        Key::Azimuth => b"azimuth",
-        Key::Scale => b"k0",
-        Key::Origin => b"origin",
-        Key::Easting => b"easting",
-        Key::Northing => b"northing",
-    }
+    line.push_two(key_text(key).as_bytes(), part_suffix(part));
 }
 
 fn part_suffix(part: Part) -> &'static [u8]

@@ -4,14 +4,14 @@
 #![tactic(auto)]
 
 mod cells_fault;
+mod file_role;
 mod grid_fault;
 mod height_fault;
 mod job_fault;
 mod line;
 mod refusal;
-mod role;
 mod zone_fault;
 
+pub use file_role::FileRole;
 pub use line::Line;
 pub use refusal::Refusal;
-pub use role::Role;

@@ -2,11 +2,11 @@ ghost use Rattle.std.specs.Prelude.{◌≡◌, ◌≤◌, [], length};
 ghost use Rattle.ldp_message.specs.Refusal.{refusal_status, refusal_text};
 
 use crate::cells_fault::push_cells_fault;
+use crate::file_role::FileRole;
 use crate::grid_fault::push_grid_fault;
 use crate::height_fault::push_height_fault;
 use crate::job_fault::push_job_fault;
 use crate::line::Line;
-use crate::role::Role;
 use crate::zone_fault::push_zone_fault;
 use ldp_cells::CellsFault;
 use ldp_grids::GridFault;
@@ -18,7 +18,7 @@ use ldp_zone::ZoneFault;
 #[derive(Clone, Copy, Debug, PartialEq, Eq)]
 pub enum Refusal {
     /// A file has more than 128,000,000 bytes.
-    TooLong(Role),
+    TooLong(FileRole),
     /// The text of a zone has a fault.
     RefusedZone(ZoneFault),
     /// The text of heights has a fault.

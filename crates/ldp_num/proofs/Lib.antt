@@ -3,5 +3,4 @@ pub mod Products
 pub mod Quotients
 pub mod Roots
 pub mod Listed
-pub mod Reruns
-pub mod Lasting
+pub mod Ring

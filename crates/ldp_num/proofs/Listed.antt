@@ -1,6 +1,6 @@
 -- The results of a formula over the lists that values mean are the lists that its results mean. So
--- a run of carrier 0 is a run over numbers, a run of carrier 1 is a run over pairs, and a run of
--- carrier 3 is one over twins.
+-- a run of carrier 0 is a run over numbers, a run of carrier 1 is a run over pairs, a run of carrier
+-- 2 is one over items of slopes, and a run of carrier 3 is one over twins.
 use Rattle.std.specs.Prelude.{◌≡◌, ℕ, ℤ, List, [], ◌∷◌, ◌++◌, map, slice_get, Option, Some, None}
 use Rattle.std.specs.Prelude.{option_map, option_and_then, refl}
 use Rattle.std.proofs.Common.{◌∙◌, ap, sym}
@@ -9,11 +9,14 @@ use Rattle.std.proofs.lemmas.List.{map-append}
 use Rattle.ldp_num.specs.declared.step.Step.{Step}
 use Rattle.ldp_num.specs.declared.step.Step.TheVariants.{Const, Input, Add, Sub, Mul, Div, Sq, Sqrt}
 use Rattle.ldp_num.specs.declared.step.Step.TheVariants.{Need}
-use Rattle.ldp_num.specs.Written.{Ops, of_one, of_two, listed, number_ops, range_ops, twin_ops}
-use Rattle.ldp_num.specs.Written.{plain_in, plain_out, pair_in, pair_out, twin_in, twin_out}
+use Rattle.ldp_num.specs.Slopes.{Known, item}
+use Rattle.ldp_num.specs.Written.{Ops, of_one, of_two, listed, number_ops, range_ops, slope_ops}
+use Rattle.ldp_num.specs.Written.{twin_ops, plain_in, plain_out, pair_in, pair_out, slopes_in}
+use Rattle.ldp_num.specs.Written.{slopes_out, slope_in, slope_out, twin_in, twin_out}
 use Rattle.ldp_num.specs.Steps.{at_one, at_two, step_value, results_from, results_of}
 use Rattle.ldp_num.specs.StepList.{StepList, at_places, value_in}
-use Rattle.ldp_num.specs.Laws.{PlainValue, PlainTold, PairValue, PairTold, TwinValue, TwinTold}
+use Rattle.ldp_num.specs.Laws.{PlainValue, PlainTold, PairValue, PairTold, SlopeValue, SlopeTold}
+use Rattle.ldp_num.specs.Laws.{SlopeBack, TwinValue, TwinTold}
 
 one_listed : {A : Type 0} (from : List ℤ → Option A) (out : A → List ℤ)
     → ((a : A) → from (out a) ≡ Some a)
@@ -169,6 +172,25 @@ pair_value list inputs = value_listed pair_in pair_out (λ a. refl) range_ops li
 pub pair_told : PairTold
 pair_told list inputs found h =
     value_told pair_in pair_out (λ a. refl) range_ops list inputs found h
+
+-- the item that a list means is the one that it was made of
+slopes_back : (slopes : List (ℤ × ℤ)) → slopes_in (slopes_out slopes) ≡ Some slopes
+slopes_back [] = refl
+slopes_back (s ∷ slopes) = rw (slopes_back slopes) refl
+
+pub slope_back : SlopeBack
+slope_back a = known_back a.known where
+  known_back : (k : Option Known) → slope_in (slope_out (item k a.range)) ≡ Some (item k a.range)
+  known_back None = refl
+  known_back (Some k) = rw (slopes_back k.slopes) refl
+
+-- carrier 2 runs over items of slopes
+pub slope_value : SlopeValue
+slope_value list inputs = value_listed slope_in slope_out slope_back slope_ops list inputs
+
+pub slope_told : SlopeTold
+slope_told list inputs found h =
+    value_told slope_in slope_out slope_back slope_ops list inputs found h
 
 -- carrier 3 runs over twins
 pub twin_value : TwinValue

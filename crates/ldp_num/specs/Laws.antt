@@ -1,8 +1,10 @@
 -- The value of a list over the lists of numbers that values mean is what its value over the values
 -- means.
-use Rattle.std.specs.Prelude.{◌≡◌, ℕ, ℤ, List, map, Option, option_map}
+use Rattle.std.specs.Prelude.{◌≡◌, ℕ, ℤ, List, map, Option, Some, option_map}
 use Rattle.ldp_num.specs.Twins.{TwinPair}
-use Rattle.ldp_num.specs.Written.{written, range_ops, twin_ops, plain_out, pair_out, twin_out}
+use Rattle.ldp_num.specs.Slopes.{Item}
+use Rattle.ldp_num.specs.Written.{written, range_ops, slope_ops, twin_ops, plain_out, pair_out}
+use Rattle.ldp_num.specs.Written.{slope_in, slope_out, twin_out}
 use Rattle.ldp_num.specs.StepList.{StepList, value, value_in}
 use Rattle.ldp_num.specs.Root.{root, IsRoot}
 
@@ -24,10 +26,27 @@ PairValue = (list : StepList) (inputs : List (ℤ × ℤ))
     → value_in (written 1) list (map pair_out inputs)
     ≡ option_map (map pair_out) (value_in range_ops list inputs)
 
+-- and the way back: what a run of carrier 1 found is the value over pairs
 abbrev pub PairTold : Type 0
 PairTold = (list : StepList) (inputs : List (ℤ × ℤ)) (found : Option (List (ℤ × ℤ)))
     → value_in (written 1) list (map pair_out inputs) ≡ option_map (map pair_out) found
     → value_in range_ops list inputs ≡ found
+
+-- carrier 2 runs over items of slopes
+abbrev pub SlopeValue : Type 0
+SlopeValue = (list : StepList) (inputs : List Item)
+    → value_in (written 2) list (map slope_out inputs)
+    ≡ option_map (map slope_out) (value_in slope_ops list inputs)
+
+-- and the way back: what a run of carrier 2 found is the value over items
+abbrev pub SlopeTold : Type 0
+SlopeTold = (list : StepList) (inputs : List Item) (found : Option (List Item))
+    → value_in (written 2) list (map slope_out inputs) ≡ option_map (map slope_out) found
+    → value_in slope_ops list inputs ≡ found
+
+-- the list that an item means is of no other item
+abbrev pub SlopeBack : Type 0
+SlopeBack = (a : Item) → slope_in (slope_out a) ≡ Some a
 
 -- carrier 3 runs over twins
 abbrev pub TwinValue : Type 0
@@ -35,6 +54,7 @@ TwinValue = (list : StepList) (inputs : List TwinPair)
     → value_in (written 3) list (map twin_out inputs)
     ≡ option_map (map twin_out) (value_in twin_ops list inputs)
 
+-- and the way back: what a run of carrier 3 found is the value over twins
 abbrev pub TwinTold : Type 0
 TwinTold = (list : StepList) (inputs : List TwinPair) (found : Option (List TwinPair))
     → value_in (written 3) list (map twin_out inputs) ≡ option_map (map twin_out) found

@@ -3,10 +3,11 @@ pub mod Root
 pub mod Plain
 pub mod Ranges
 pub mod Twins
+pub mod Slopes
 pub mod Written
 pub mod Steps
 pub mod StepList
 pub mod Units
 pub mod Bench
-pub mod Again
 pub mod Laws
+pub mod Ring

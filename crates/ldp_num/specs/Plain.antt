@@ -10,21 +10,25 @@ abbrev pub floor_div : ℤ → ℕ → ℤ
 floor_div (pos a) d = pos (a / d)
 floor_div (negsuc a) d = negsuc (a / d)
 
+-- the sum, which is exact
 abbrev pub plain_add : ℤ → ℤ → Option ℤ
 plain_add a b = number (a +ℤ b)
 
+-- the difference, which is exact
 abbrev pub plain_sub : ℤ → ℤ → Option ℤ
 plain_sub a b = number (a -ℤ b)
 
+-- the product, rounded down
 abbrev pub plain_mul : ℤ → ℤ → Option ℤ
 plain_mul a b = number (floor_div (a *ℤ b) one)
 
--- the divisor is above 0
+-- the quotient, rounded down, for a divisor above 0
 abbrev pub plain_div : ℤ → ℤ → Option ℤ
 plain_div a (pos zero) = None
 plain_div a (pos (suc d)) = number (floor_div (a *ℤ pos one) (suc d))
 plain_div a (negsuc d) = None
 
+-- the product with itself, rounded down
 abbrev pub plain_sq : ℤ → Option ℤ
 plain_sq a = plain_mul a a
 

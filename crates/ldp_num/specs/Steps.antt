@@ -8,10 +8,11 @@ use Rattle.ldp_num.specs.declared.step.Step.TheVariants.{Need}
 use Rattle.ldp_num.specs.Number.{IsNumber}
 use Rattle.ldp_num.specs.Written.{Ops}
 
--- the operation at one place, and at two
+-- an operation on the result at a place; undefined if none is there
 abbrev pub at_one : {A : Type 0} → (A → Option A) → List A → ℕ → Option A
 at_one f done a = option_and_then f (slice_get done a)
 
+-- an operation on the results at two places; undefined if one is not there
 abbrev pub at_two : {A : Type 0} → (A → A → Option A) → List A → ℕ → ℕ → Option A
 at_two f done a b =
     option_and_then (λ x. option_and_then (f x) (slice_get done b)) (slice_get done a)
@@ -36,6 +37,7 @@ results_from ops inputs done (step ∷ steps) =
     option_and_then (λ v. results_from ops inputs (done ++ v ∷ []) steps)
     (step_value ops inputs done step)
 
+-- the results of all steps, from none done
 abbrev pub results_of : {A : Type 0} → Ops A → List A → List Step → Option (List A)
 results_of ops inputs steps = results_from ops inputs [] steps
 
@@ -61,3 +63,11 @@ StepsFit inputs before (step ∷ steps) =
 -- the most steps that a list has
 abbrev pub most_steps : ℕ
 most_steps = 4096
+
+-- the most inputs of a list
+abbrev pub most_inputs : ℕ
+most_inputs = 16
+
+-- the most results of a list
+abbrev pub most_results : ℕ
+most_results = 8

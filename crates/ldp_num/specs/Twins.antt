@@ -15,11 +15,12 @@ TwinPair = (ℤ × ℤ) × (ℤ × ℤ)
 abbrev pub both : Option (ℤ × ℤ) → Option (ℤ × ℤ) → Option TwinPair
 both lows highs = option_and_then (λ l. option_map (λ h. (l, h)) highs) lows
 
--- where the lesser, and where the greater, of a number of each range lies
+-- where the lesser of a number of each range lies
 abbrev pub lesser_of : Option (ℤ × ℤ) → Option (ℤ × ℤ) → Option (ℤ × ℤ)
 lesser_of x y =
     option_and_then (λ a. option_map (λ b. (int_min a.0 b.0, int_min a.1 b.1)) y) x
 
+-- where the greater of a number of each range lies
 abbrev pub greater_of : Option (ℤ × ℤ) → Option (ℤ × ℤ) → Option (ℤ × ℤ)
 greater_of x y =
     option_and_then (λ a. option_map (λ b. (int_max a.0 b.0, int_max a.1 b.1)) y) x
@@ -41,12 +42,13 @@ by_signs join x first second =
     else if int_le x.1 (pos 0) then second
     else join first second
 
--- the product with a twin b whose ranges are not below 0, and with one whose ranges are not above 0
+-- the product with a twin b whose ranges are not below 0
 abbrev pub twin_raised : TwinPair → TwinPair → Option TwinPair
 twin_raised a b =
     both (by_signs lesser_of a.0 (pair_mul a.0 b.0) (pair_mul a.0 b.1))
     (by_signs greater_of a.1 (pair_mul a.1 b.1) (pair_mul a.1 b.0))
 
+-- the product with a twin b whose ranges are not above 0
 abbrev pub twin_lowered : TwinPair → TwinPair → Option TwinPair
 twin_lowered a b =
     both (by_signs lesser_of a.1 (pair_mul a.1 b.0) (pair_mul a.1 b.1))
@@ -78,7 +80,8 @@ twin_div a b =
     else both (by_signs lesser_of a.0 (pair_div a.0 b.1) (pair_div a.0 b.0))
     (by_signs greater_of a.1 (pair_div a.1 b.0) (pair_div a.1 b.1))
 
--- from 0 to the square of the number that is nearest to 0 in a range that may hold 0, at the most
+-- of a twin whose ranges may hold 0, where the least square in one of them lies: from 0 to the
+-- greatest that it may be
 abbrev pub nearest_squares : TwinPair → Option (ℤ × ℤ)
 nearest_squares a =
     option_map (λ r. (pos 0, r.1))

@@ -3,7 +3,6 @@ ghost use Rattle.std.specs.Prelude.{if◌then◌else◌, slice_get, [], option_m
 ghost use Rattle.std.specs.Bool.{OnTrue, OnFalse};
 ghost use Rattle.ldp_num.specs.Steps.{StepFits, StepsFit, step_value, results_of, most_steps};
 ghost use Rattle.ldp_num.specs.Written.{written};
-ghost use Rattle.ldp_num.specs.Again.{HasRun};
 
 use crate::Memory;
 use crate::carrier::Num;
@@ -66,24 +65,6 @@ impl<N: Num> Bench<N> {
         defined
     }
 
-    /// Runs the steps as `run` does, where the last run was one of the same steps over inputs that
-    /// began as these do: only the steps at these places, which `dependents` gave.
-    pub fn run_again(&mut self, steps: &[Step], inputs: &[N], again: &[u16]) -> bool
-        requires fit { StepsFit (length inputs.now) 0 steps.now }
-        requires room { length steps.now ≤ self.old.room }
-        requires ran { HasRun (written N.CARRIER) (map N.meaning inputs.now) steps.now again.now
-            (map N.meaning self.old.results) }
-        ensures same_room { self.new.room ≡ self.old.room }
-        ensures results { results_of (written N.CARRIER) (map N.meaning inputs.now) steps.now
-            ≡ (if result then Some (map N.meaning self.new.results) else None) }
-        ensures one_each { OnTrue result (length self.new.results ≡ length steps.now) }
-        ensures undefined { OnFalse result (self.new.results ≡ []) }
-    {
-        let defined = run_again_into(self.places.as_mut_slice(), steps, inputs, again);
-        self.count = if defined { steps.len() } else { 0 };
-        defined
-    }
-
     /// The result of the step at this place in the last run.
     #[inline(always)]
     pub fn at(&self, place: u16) -> N
@@ -106,25 +87,6 @@ fn run_into<N: Num>(places: &mut [N], steps: &[Step], inputs: &[N]) -> bool
             Some(value) => places[i] = value,
             None => return false,
         }
-    }
-    true
-}
-
-// Writes anew the results of the steps at these places, up to the first that is undefined.
-fn run_again_into<N: Num>(places: &mut [N], steps: &[Step], inputs: &[N], again: &[u16]) -> bool
-    requires fit { StepsFit (length inputs.now) 0 steps.now }
-    requires room { length steps.now ≤ length places.old }
-    requires ran { HasRun (written N.CARRIER) (map N.meaning inputs.now) steps.now again.now
-        (map N.meaning (take (length steps.now) places.old)) }
-    ensures results { results_of (written N.CARRIER) (map N.meaning inputs.now) steps.now
-        ≡ (if result then Some (map N.meaning (take (length steps.now) places.new)) else None) }
-{
-    for place in again {
-        let at = *place as usize;
-        let Some(value) = value_of(steps[at], inputs, &places[..at]) else {
-            return false;
-        };
-        places[at] = value;
     }
     true
 }

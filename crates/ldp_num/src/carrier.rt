@@ -1,11 +1,12 @@
 ghost use Rattle.std.specs.Prelude.{◌≡◌, ℕ, ℤ, List, option_map};
+ghost use Rattle.std.specs.Bool.{Decides};
 ghost use Rattle.ldp_num.specs.Number.{IsNumber};
 ghost use Rattle.ldp_num.specs.Written.{written};
 
 /// A carrier: values that a formula is run over. What a value means is a list of numbers, and each
 /// method is the written operation of the carrier, None exactly where that is undefined.
 pub trait Num: Copy {
-    /// 0 is the plain number, 1 the range, 3 the twin of ranges.
+    /// 0 is the plain number, 1 the range, 2 the item of slopes, 3 the twin of ranges.
     const CARRIER: u32;
 
     ghost CARRIER: { ℕ };
@@ -48,4 +49,8 @@ pub trait Num: Copy {
     /// The value itself where it is at least 0: how a formula states its domain.
     fn need(self) -> Option<Self>
         ensures { option_map meaning result ≡ (written CARRIER).need (meaning self) };
+
+    /// Whether both mean the same.
+    fn same(self, other: Self) -> bool
+        ensures { Decides result (meaning self ≡ meaning other) };
 }

@@ -5,8 +5,8 @@ ghost use Rattle.ldp_num.specs.Plain.{floor_div};
 /// The units that make one.
 pub const ONE: i128 = 1_000_000_000_000_000;
 
-/// The greatest number.
-const LIMIT: i128 = 10_000_000_000_000_000_000;
+/// The greatest number, in units of 10^-15.
+pub const LIMIT: i128 = 10_000_000_000_000_000_000;
 
 /// z where it is a number.
 #[inline(always)]

@@ -73,4 +73,9 @@ impl Num for Fix {
             n: plain::need(self.n)?,
         })
     }
+
+    #[inline(always)]
+    fn same(self, other: Fix) -> bool {
+        self.n == other.n
+    }
 }

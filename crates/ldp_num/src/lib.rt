@@ -3,7 +3,6 @@
 //! A number is a whole n, at most 10^19 in absolute value, that stands for n / 10^15.
 #![tactic(auto)]
 
-mod again;
 mod bench;
 mod carrier;
 mod exact;
@@ -16,14 +15,14 @@ mod root;
 mod step;
 mod units;
 
-pub use again::dependents;
 pub use bench::Bench;
 pub use carrier::Num;
+pub use exact::LIMIT;
 pub use fix::Fix;
 pub use plain::{add, need, sub};
 pub use product::{mul, sq};
 pub use quotient::div;
 pub use root::sqrt;
 pub use std::alloc::AllocError as Memory;
-pub use step::{MOST_STEPS, Step};
+pub use step::{MOST_INPUTS, MOST_RESULTS, MOST_STEPS, Step};
 pub use units::{eta, radians};

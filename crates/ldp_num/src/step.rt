@@ -14,3 +14,9 @@ pub enum Step {
 
 /// The most steps of a list.
 pub const MOST_STEPS: usize = 4096;
+
+/// The most inputs of a list.
+pub const MOST_INPUTS: usize = 16;
+
+/// The most results of a list.
+pub const MOST_RESULTS: usize = 8;

@@ -18,7 +18,8 @@ use Rattle.ldp_optimum.specs.Best.{Ranked, rank, is_better, better, all_designs,
 use Rattle.ldp_optimum.specs.Laws.{IsRankOf, IsRanked}
 use Rattle.ldp_optimum.proofs.Members.{Member, kept, of_filter_map}
 use Rattle.ldp_optimum.proofs.Listed.{admitted_listed, listed_admitted}
-use Rattle.ldp_optimum.proofs.Order.{better_weak, not_better_itself, pair_total, same_ranked}
+use Rattle.ldp_problem.proofs.Pairs.{pair_total}
+use Rattle.ldp_optimum.proofs.Order.{better_weak, not_better_itself, same_ranked}
 
 -- ranks
 pub usable_ranked : (p : Problem) (d : Design) → IsUsable p d

@@ -10,7 +10,8 @@ use Rattle.ldp_design.specs.declared.design_box.DesignBox.{DesignBox}
 use Rattle.ldp_design.specs.declared.node.Node.{Node}
 use Rattle.ldp_design.specs.declared.node.Node.TheVariants.{Tree}
 use Rattle.ldp_design.specs.Families.{AreGrids, family_of}
-use Rattle.ldp_design.specs.Boxes.{LiesIn, IsWhole, whole_box, whole_of}
+use Rattle.ldp_design.specs.Boxes.{LiesIn, whole_box, whole_of}
+use Rattle.ldp_design.specs.Laws.{IsWhole}
 use Rattle.ldp_design.specs.Forests.{node_count, is_node, is_shaped}
 use Rattle.ldp_design.specs.Shapes.{IsForest, none, grown}
 use Rattle.ldp_design.proofs.Shapes.{shapes_are_forests}

@@ -10,11 +10,8 @@ use Rattle.ldp_design.specs.declared.design.Design.{Design}
 use Rattle.ldp_design.specs.Designs.{design_cmp}
 use Rattle.ldp_problem.specs.declared.pair.Pair.{Pair}
 use Rattle.ldp_problem.specs.Pairs.{pair_cmp}
+use Rattle.ldp_problem.proofs.Pairs.{pair_total}
 use Rattle.ldp_optimum.specs.Best.{Ranked, ranked_cmp, is_better}
-
-pub pair_total : IsTotalOrder pair_cmp
-pair_total = then_total (on_total (λ a. a.over) nat_cmp_total)
-    (on_total (λ a. a.value) nat_cmp_total)
 
 design_total : IsTotalOrder design_cmp
 design_total =

@@ -13,7 +13,8 @@ use Rattle.ldp_design.specs.Families.{AreGrids}
 use Rattle.ldp_design.specs.Measures.{widest}
 use Rattle.std.specs.Prelude.{option_and_then}
 use Rattle.ldp_design.specs.Boxes.{is_single, size, LiesIn, first_of}
-use Rattle.ldp_design.specs.Splits.{family_cut, middle, cut_for, parts_at, AreParts}
+use Rattle.ldp_design.specs.Splits.{family_cut, middle, cut_for, parts_at}
+use Rattle.ldp_design.specs.Laws.{AreParts}
 use Rattle.ldp_design.specs.Forests.{node_count, is_node}
 use Rattle.ldp_design.specs.Shapes.{IsTree, closed, undefined, parted}
 use Rattle.ldp_design.proofs.Cuts.{cuts_part}

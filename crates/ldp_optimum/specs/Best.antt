@@ -30,6 +30,7 @@ pub record Ranked : Type 0 where
   pub design : Design
   pub cost : Pair
 
+-- a design with its cost; None if it is not usable
 abbrev pub rank : Problem → Design → Option Ranked
 rank p d =
     if is_none (first_undefined p d) then Some record { design = d; cost = cost p d } else None
@@ -38,9 +39,11 @@ rank p d =
 abbrev pub ranked_cmp : Ranked → Ranked → Ordering
 ranked_cmp a b = ordering_then (pair_cmp a.cost b.cost) (design_cmp a.design b.design)
 
+-- whether a stands before b: its cost is less, or equal with a the earlier design
 abbrev pub is_better : Ranked → Ranked → Bool
 is_better a b = is_lt (ranked_cmp a b)
 
+-- of two ranked designs the better one
 abbrev pub better : Ranked → Ranked → Ranked
 better a b = if is_better b a then b else a
 

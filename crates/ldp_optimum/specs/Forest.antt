@@ -17,7 +17,7 @@ use Rattle.ldp_problem.specs.Pairs.{is_smaller}
 use Rattle.ldp_problem.specs.Costs.{bound, bound_cell, unusable_at}
 use Rattle.ldp_optimum.specs.Best.{least}
 
--- a bound is above a cost; where no design is usable there is no such cost
+-- whether a bound is above a cost; false if there is none, since no design is usable
 abbrev pub is_above : Pair → Option Pair → Bool
 is_above bound None = false
 is_above bound (Some cost) = is_smaller cost bound
@@ -28,6 +28,7 @@ abbrev pub end_node : Option ℕ → Bool → ℕ → Option Node
 end_node (Some undefined) ends cell = Some (Unusable undefined)
 end_node None ends cell = if ends then Some (Leaf cell) else None
 
+-- the one node of a box for a least cost w; None if the box is split
 abbrev pub end_of : Problem → Option Pair → DesignBox → Option Node
 end_of p w b = end_node (unusable_at p b) (is_single b || is_above (bound p b) w) (bound_cell p b)
 

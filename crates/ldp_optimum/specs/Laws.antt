@@ -1,7 +1,7 @@
 -- What follows of the best design, of trees and of the canonical forest.
 use Rattle.std.specs.Prelude.{◌≡◌, ◌≤◌, ◌+◌, ◌*◌, ◌||◌, ℕ, suc, true, false}
 use Rattle.std.specs.Prelude.{List, [], ◌∷◌, ◌++◌, length, Option, None, Some, Contains}
-use Rattle.std.specs.Cmp.{IsTotalOrder}
+use Rattle.std.specs.Cmp.{IsTotalOrder, IsStrictWeakOrder}
 use Rattle.std.specs.Ordering.{is_lt}
 use Rattle.ldp_design.specs.declared.family.Family.{Family}
 use Rattle.ldp_design.specs.declared.axis.AxisName.{AxisName}
@@ -33,22 +33,33 @@ pub record IsRankOf (p : Problem) (d : Design) (x : Ranked) : Type 0 where
   pub design : x.design ≡ d
   pub cost : x.cost ≡ cost p d
 
+-- a design that is ranked is usable, and it is ranked with its own cost
 abbrev pub RankedAreUsable : Type 0
 RankedAreUsable = (p : Problem) (d : Design) (x : Ranked) → rank p d ≡ Some x → IsRankOf p d x
 
+-- the order of ranked designs is total
 abbrev pub RankedAreOrdered : Type 0
 RankedAreOrdered = IsTotalOrder ranked_cmp
+
+-- of ranked designs is_better is a strict order; that neither of two is better hands on to a third
+abbrev pub BetterIsWeak : Type 0
+BetterIsWeak = IsStrictWeakOrder is_better
+
+-- none is better than itself
+abbrev pub NoneBeatsItself : Type 0
+NoneBeatsItself = (x : Ranked) → is_better x x ≡ false
 
 -- two ranked designs of which neither is better are one
 abbrev pub RankedAreDistinct : Type 0
 RankedAreDistinct = (x y : Ranked) → is_better x y ≡ false → is_better y x ≡ false → x ≡ y
 
--- all designs are the admissible ones
+-- each admissible design is one of all designs
 abbrev pub AdmittedAreListed : Type 0
 AdmittedAreListed =
     (families : List Family) (d : Design) → IsAdmitted families d
     → Contains (all_designs families) d
 
+-- each one of all designs is admissible
 abbrev pub ListedAreAdmitted : Type 0
 ListedAreAdmitted =
     (families : List Family) (d : Design) → Contains (all_designs families) d

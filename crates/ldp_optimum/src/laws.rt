@@ -1,6 +1,7 @@
 //! What follows of the best design, of trees and of the canonical forest, for any problem.
 ghost use Rattle.ldp_optimum.specs.Laws.{UsableAreRanked, RankedAreUsable, RankedAreOrdered};
-ghost use Rattle.ldp_optimum.specs.Laws.{RankedAreDistinct, AdmittedAreListed, ListedAreAdmitted};
+ghost use Rattle.ldp_optimum.specs.Laws.{BetterIsWeak, NoneBeatsItself, RankedAreDistinct};
+ghost use Rattle.ldp_optimum.specs.Laws.{AdmittedAreListed, ListedAreAdmitted};
 ghost use Rattle.ldp_optimum.specs.Laws.{BestIsRanked, BestIsUnbeaten, BestIsLeast, BestIsFirst};
 ghost use Rattle.ldp_optimum.specs.Laws.{NoBestNoneUsable, UnbeatenIsBest, NoneUsableNoBest};
 ghost use Rattle.ldp_optimum.specs.Laws.{TreeUnusable, TreeClosed, TreeSplit, TreesAreTrees};
@@ -13,6 +14,8 @@ pub fn ranks()
     ensures usable { UsableAreRanked }
     ensures ranked { RankedAreUsable }
     ensures ordered { RankedAreOrdered }
+    ensures weak { BetterIsWeak }
+    ensures itself { NoneBeatsItself }
     ensures distinct { RankedAreDistinct }
 {}
 

@@ -1,7 +1,7 @@
 -- Values at numbered cells: their largest, the first cell that has it, and how many are beyond a
 -- tolerance.
-use Rattle.std.proofs.Common.{◌≡◌, ◌≤◌, ◌<◌, ◌+◌, ℕ, zero, suc, max, Bool, true, false, cond, List}
-use Rattle.std.proofs.Common.{[], ◌∷◌, ◌++◌, length, get_or, arith, refl, sym, ap, subst, ◌∙◌, ◌⊎◌}
+use Rattle.std.proofs.Common.{◌≡◌, ◌≤◌, ◌<◌, ℕ, zero, suc, max, true, false, cond, List}
+use Rattle.std.proofs.Common.{[], ◌∷◌, ◌++◌, length, get_or, arith, refl, sym, ap, ◌∙◌, ◌⊎◌}
 use Rattle.std.proofs.Common.{inl, inr}
 use Rattle.std.proofs.lemmas.Bool.{cases_lt}
 use Rattle.std.proofs.lemmas.Bool.Decides.{nat_tests}
@@ -9,8 +9,8 @@ use Rattle.std.proofs.lemmas.List.{length-append, get_or_push, get_or_append_lef
 use Rattle.std.proofs.lemmas.List.Sums.{sum_by-append, sum_by-cons, fails_before_first}
 use Rattle.std.proofs.lemmas.List.Sums.{passes_at_first}
 use Rattle.std.specs.Prelude.{Option, None, Some, nat_lt, ◌==◌, count_by}
-use Rattle.std.specs.List.{position_or_len, sum_by}
 use Rattle.ldp_problem.specs.Costs.{at_cells, largest, first_largest, beyond}
+use Rattle.ldp_problem.specs.Laws.{BeyondGrows, BeyondOfOne}
 
 pub length-at_cells : {A : Type 0} (f : ℕ → A) (n : ℕ) → length (at_cells f n) ≡ n
 length-at_cells f zero = refl
@@ -23,7 +23,7 @@ same_cells f g zero same = refl
 same_cells f g (suc n) same =
     rw (same_cells f g n (λ cell h. same cell (omega arith)), same n (omega arith)) refl
 
-largest_push : (xs : List ℕ) (x : ℕ) → largest (xs ++ x ∷ []) ≡ max (largest xs) x
+pub largest_push : (xs : List ℕ) (x : ℕ) → largest (xs ++ x ∷ []) ≡ max (largest xs) x
 largest_push [] x = omega arith
 largest_push (y ∷ xs) x = rw (largest_push xs x) (omega arith)
 
@@ -45,32 +45,31 @@ largest_below f g (suc n) below =
     rw (largest_push (at_cells f n) (f n), largest_push (at_cells g n) (g n))
     (omega (arith, largest_below f g n (λ cell h. below cell (omega arith)), below n (omega arith)))
 
-counted : ℕ → ℕ → ℕ
-counted tolerance value = cond (nat_lt tolerance value) 1 0
+pub beyond_grows : BeyondGrows
+beyond_grows None values value = refl
+beyond_grows (Some tolerance) values value =
+    sum_by-append (λ v. cond (nat_lt tolerance v) 1 0) values (value ∷ [])
 
-counted_below : (tolerance m n : ℕ) → m ≤ n → counted tolerance m ≤ counted tolerance n
-unfolding counted
-counted_below tolerance m n h = grind (arith, nat_tests)
+pub beyond_of_one : BeyondOfOne
+beyond_of_one tolerance value =
+    sum_by-cons (λ v. cond (nat_lt tolerance v) 1 0) value [] ∙ omega arith
 
-count_push : (tolerance : ℕ) (xs : List ℕ) (x : ℕ)
-    → count_by (nat_lt tolerance) (xs ++ x ∷ []) ≡ count_by (nat_lt tolerance) xs
-    + counted tolerance x
-unfolding counted
-count_push tolerance xs x =
-    sum_by-append (λ v. cond (nat_lt tolerance v) 1 0) xs (x ∷ [])
-    ∙ ap (λ n. count_by (nat_lt tolerance) xs + n)
-    (sum_by-cons (λ v. cond (nat_lt tolerance v) 1 0) x [] ∙ omega arith)
+one_below : (tolerance m n : ℕ) → m ≤ n
+    → beyond (Some tolerance) (m ∷ []) ≤ beyond (Some tolerance) (n ∷ [])
+one_below tolerance m n h =
+    rw (beyond_of_one tolerance m, beyond_of_one tolerance n) (grind (arith, nat_tests))
 
 count_below : (tolerance : ℕ) (f g : ℕ → ℕ) (n : ℕ) → ((cell : ℕ) → cell < n → f cell ≤ g cell)
     → count_by (nat_lt tolerance) (at_cells f n) ≤ count_by (nat_lt tolerance) (at_cells g n)
 count_below tolerance f g zero below = omega arith
 count_below tolerance f g (suc n) below =
-    rw (count_push tolerance (at_cells f n) (f n), count_push tolerance (at_cells g n) (g n))
-    (omega (
+    omega (
       arith,
+      beyond_grows (Some tolerance) (at_cells f n) (f n),
+      beyond_grows (Some tolerance) (at_cells g n) (g n),
       count_below tolerance f g n (λ cell h. below cell (omega arith)),
-      counted_below tolerance (f n) (g n) (below n (omega arith)),
-    ))
+      one_below tolerance (f n) (g n) (below n (omega arith)),
+    )
 
 pub beyond_below : (tolerance : Option ℕ) (f g : ℕ → ℕ) (n : ℕ)
     → ((cell : ℕ) → cell < n → f cell ≤ g cell)

@@ -1,11 +1,10 @@
 -- The laws of bounds and costs over any problem.
-use Rattle.std.proofs.Common.{◌≡◌, ◌≤◌, ◌<◌, ℕ, Bool, true, false, List, length, get_or, arith}
+use Rattle.std.proofs.Common.{◌≡◌, ◌≤◌, ◌<◌, ℕ, Bool, true, false, length, arith}
 use Rattle.std.proofs.Common.{rules, refl, sym, ap, ◌∙◌}
-use Rattle.std.proofs.lemmas.Bool.{cases_lt}
 use Rattle.std.proofs.lemmas.Bool.Decides.{nat_tests}
 use Rattle.std.proofs.lemmas.List.Quantifiers.{position-Some}
 use Rattle.std.proofs.lemmas.List.Sums.{position_or_len_is, fails_before_first}
-use Rattle.std.specs.Prelude.{Option, None, Some, IsSome, unwrap_or, position, nat_lt}
+use Rattle.std.specs.Prelude.{Option, None, Some, IsSome, unwrap_or, nat_lt}
 use Rattle.std.specs.Option.{is_none}
 use Rattle.std.specs.List.{position_or_len}
 use Rattle.ldp_design.specs.declared.design.Design.{Design}
@@ -15,7 +14,7 @@ use Rattle.ldp_problem.specs.declared.pair.Pair.{Pair}
 use Rattle.ldp_problem.specs.Problem.{Problem, IsSound}
 use Rattle.ldp_problem.specs.Pairs.{AtMost}
 use Rattle.ldp_problem.specs.Costs.{at_cells, IsUsable, first_undefined, sizes, lows, tally}
-use Rattle.ldp_problem.specs.Costs.{first_largest, beyond, cost, worst_cell, bound, bound_cell}
+use Rattle.ldp_problem.specs.Costs.{first_largest, cost, bound, bound_cell}
 use Rattle.ldp_problem.specs.Laws.{NoneUndefined, UsableHasNone, FirstUndefined, BoundBelow}
 use Rattle.ldp_problem.specs.Laws.{LeafBelow, SingleExact, BoundAtCell, WorstAtCell, LowBelow}
 use Rattle.ldp_problem.proofs.Cells.{length-at_cells, same_cells, at_most_largest, largest_below}

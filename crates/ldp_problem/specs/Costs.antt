@@ -19,6 +19,7 @@ abbrev pub at_cells : {A : Type 0} → (ℕ → A) → ℕ → List A
 at_cells f zero = []
 at_cells f (suc n) = at_cells f n ++ f n ∷ []
 
+-- the largest of some numbers; 0 if there are none
 abbrev pub largest : List ℕ → ℕ
 largest [] = 0
 largest (n ∷ ns) = max n (largest ns)
@@ -48,21 +49,24 @@ first_undefined p d = position is_none (at_cells (p.delta d) p.cells)
 abbrev pub sizes : Problem → Design → List ℕ
 sizes p d = at_cells (λ cell. unwrap_or (p.delta d cell) 0) p.cells
 
--- the cost of a usable design, and the first cell of its worst distortion
+-- the cost of a usable design: how many cells are beyond the tolerance, and its largest absolute
+-- distortion
 abbrev pub cost : Problem → Design → Pair
 cost p d = tally p.tolerance (sizes p d)
 
+-- the first cell at which a usable design has its largest absolute distortion
 abbrev pub worst_cell : Problem → Design → ℕ
 worst_cell p d = first_largest (sizes p d)
 
--- the least absolute distortion of a box at each cell
+-- what the absolute distortion of each design of a box is at least, at each cell
 abbrev pub lows : Problem → DesignBox → List ℕ
 lows p b = at_cells (p.lower b) p.cells
 
--- the bound of a box, and the first cell of its greatest low
+-- the bound of a box: how many of its lows are beyond the tolerance, and the greatest of them
 abbrev pub bound : Problem → DesignBox → Pair
 bound p b = tally p.tolerance (lows p b)
 
+-- the first cell at which the lower bound of a box is greatest
 abbrev pub bound_cell : Problem → DesignBox → ℕ
 bound_cell p b = first_largest (lows p b)
 
@@ -70,18 +74,21 @@ bound_cell p b = first_largest (lows p b)
 abbrev pub unusable_at : Problem → DesignBox → Option ℕ
 unusable_at p b = if is_single b then first_undefined p (first_of b) else None
 
--- as calls answer them
+-- a cost and its cell, or the undefined cell if there is one
 abbrev pub cost_answer : Option ℕ → Pair → ℕ → Cost
 cost_answer (Some undefined) pair cell = costs.Unusable undefined
 cost_answer None pair cell = costs.Is pair.over (pos pair.value) cell
 
+-- the cost of a design with the cell of its worst, or the first cell at which it is undefined
 unfoldable pub cost_of : Problem → Design → Cost
 cost_of p d = cost_answer (first_undefined p d) (cost p d) (worst_cell p d)
 
+-- the bound and its cell, or the undefined cell if there is one
 abbrev pub bound_answer : Option ℕ → Pair → ℕ → Bound
 bound_answer (Some undefined) pair cell = bounds.Unusable undefined
 bound_answer None pair cell = bounds.Low pair.over (pos pair.value) cell
 
+-- the bound of a box with its cell, or the undefined cell of a single that is not usable
 unfoldable pub bound_of : Problem → DesignBox → Bound
 bound_of p b = bound_answer (unusable_at p b) (bound p b) (bound_cell p b)
 

@@ -6,10 +6,9 @@ use Rattle.ldp_design.specs.declared.design.Design.{Design}
 use Rattle.ldp_design.specs.declared.design_box.DesignBox.{DesignBox}
 use Rattle.ldp_design.specs.Boxes.{LiesIn, IsIn, IsSingle, first_of}
 
--- The families of designs and the number of cells; the tolerance, where cells beyond it are
--- counted; the least absolute distortion of a box at a cell, as far as it is known; and the
--- absolute distortion of a design at a cell, where it is defined. Distortions are in units of
--- 10^-15.
+-- The families of designs and the number of cells; the tolerance, if cells beyond it are counted;
+-- what the absolute distortion of each design of a box is at least at a cell; and the absolute
+-- distortion of a design at a cell, if it is defined there. Distortions are in units of 10^-15.
 pub record Problem : Type 0 where
   pub families : List Family
   pub cells : ℕ

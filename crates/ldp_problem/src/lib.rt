@@ -12,4 +12,3 @@ pub use bound::Bound;
 pub use bounds::Bounds;
 pub use cost::Cost;
 pub use pair::Pair;
-pub use std::alloc::AllocError as Memory;

@@ -5,9 +5,11 @@ use Rattle.ldp_decimal.specs.Reading.{decimal_value}
 use Rattle.ldp_quantity.specs.declared.unfit.Unfit.{Unfit}
 use Rattle.ldp_quantity.specs.declared.unfit.Unfit.TheVariants.{NotANumber, OutOfRange}
 
+-- the test whether n is from low to high, both included
 abbrev pub int_between : ℤ → ℤ → ℤ → Bool
 int_between low high n = int_le low n && int_le n high
 
+-- n is from low to high, both included
 abbrev pub IsBetween : ℤ → ℤ → ℤ → Type 0
 IsBetween low high n = (low ≤ℤ n) × (n ≤ℤ high)
 

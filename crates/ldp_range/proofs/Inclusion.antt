@@ -12,9 +12,9 @@ use Rattle.ldp_num.specs.Plain.{plain_need}
 use Rattle.ldp_num.specs.Ranges.{ends, hull_of, pair_add, pair_sub, pair_mul, pair_div, pair_sq}
 use Rattle.ldp_num.specs.Ranges.{pair_sqrt, pair_need}
 use Rattle.ldp_num.specs.Written.{number_ops, range_ops}
-use Rattle.ldp_range.specs.Related.{Reaches, FollowsOne, FollowsTwo, Follows}
+use Rattle.ldp_range.specs.Related.{Reaches, FollowsOne, FollowsTwo}
 use Rattle.ldp_range.specs.Range.{LiesIn}
-use Rattle.ldp_range.specs.Laws.{Inclusion, StepInclusion}
+use Rattle.ldp_range.specs.Laws.{OperationsHold, Inclusion, StepInclusion}
 use Rattle.ldp_range.proofs.Follows.{results_follow, values_follow}
 use Rattle.ldp_range.proofs.Orders.{product, product-up, product-down, product-right-up}
 use Rattle.ldp_range.proofs.Orders.{product-right-down, quotient, quotient-up, quotient-down}
@@ -246,7 +246,7 @@ pub need-holds : FollowsOne LiesIn plain_need pair_need
 need-holds a b t x e = natural-holds a b.0 b.1 t.0 t.1 x.low x.high e
 
 -- each operation at numbers of ranges
-numbers-lie-in : Follows LiesIn number_ops range_ops
+pub numbers-lie-in : OperationsHold
 numbers-lie-in = record {
   constant = λ v. record { low = ≤ℤ_refl v; high = ≤ℤ_refl v };
   add = add-holds;

@@ -1,8 +1,8 @@
 -- The orders of sums, products, quotients and roots.
 use Rattle.std.proofs.Common.{◌≡◌, ℕ, zero, suc, ◌*◌, ◌/◌, ◌<◌, ◌≤◌, ℤ, pos, negsuc, ◌*ℤ◌, ◌≤ℤ◌}
 use Rattle.std.proofs.Common.{◌⊎◌, inl, inr, ap, lit<, arith}
-use Rattle.std.proofs.Math.Nat.{mul-le-mul_left, mul-le-mul_right, div-mul-le_self, zero-div}
-use Rattle.std.proofs.Math.IntN.{*ℤ_comm, *ℤ-zero}
+use Rattle.std.proofs.Math.Nat.{mul-le-mul_left, div-mul-le_self, zero-div}
+use Rattle.std.proofs.Math.IntN.{*ℤ_comm}
 use Rattle.std.proofs.lemmas.Nat.{le-div}
 use Rattle.std.proofs.lemmas.Bool.{cases_lt}
 use Rattle.std.proofs.lemmas.Int.{ints}
@@ -11,6 +11,7 @@ use Rattle.ldp_num.specs.Number.{one}
 use Rattle.ldp_num.specs.Plain.{floor_div}
 use Rattle.ldp_num.specs.Root.{root}
 use Rattle.ldp_num.proofs.Roots.{is-root}
+use Rattle.ldp_num.proofs.Ring.{times_up, times_down}
 
 div-le-div : (a b d : ℕ) → 0 < d → a ≤ b → a / d ≤ b / d
 div-le-div a b d h k =
@@ -22,27 +23,6 @@ floor-le (pos a) (pos b) d h k = omega (arith, ints, div-le-div a b d h (omega (
 floor-le (pos a) (negsuc b) d h k = absurd (omega (arith, ints))
 floor-le (negsuc a) (pos b) d h k = omega (arith, ints)
 floor-le (negsuc a) (negsuc b) d h k = omega (arith, ints, div-le-div b a d h (omega (arith, ints)))
-
--- a greater factor, times one that is not below 0
-pub times-up : (x y k : ℤ) → x ≤ℤ y → pos 0 ≤ℤ k → (x *ℤ k) ≤ℤ (y *ℤ k)
-times-up (pos a) (pos b) (pos c) h l =
-    omega (arith, ints, mul-le-mul_right {m = a} {n = b} c (omega (arith, ints)))
-times-up (pos a) (negsuc b) (pos c) h l = absurd (omega (arith, ints))
-times-up (negsuc a) (pos b) (pos c) h l = omega (arith, ints)
-times-up (negsuc a) (negsuc b) (pos c) h l =
-    omega (arith, ints, mul-le-mul_right {m = suc b} {n = suc a} c (omega (arith, ints)))
-times-up x y (negsuc c) h l = absurd (omega (arith, ints))
-
--- a greater factor, times one that is not above 0
-pub times-down : (x y k : ℤ) → x ≤ℤ y → k ≤ℤ pos 0 → (y *ℤ k) ≤ℤ (x *ℤ k)
-times-down x y (pos zero) h l = rw (*ℤ-zero x, *ℤ-zero y) (≤ℤ_refl (pos 0))
-times-down x y (pos (suc c)) h l = absurd (omega (arith, ints))
-times-down (pos a) (pos b) (negsuc c) h l =
-    omega (arith, ints, mul-le-mul_right {m = a} {n = b} (suc c) (omega (arith, ints)))
-times-down (pos a) (negsuc b) (negsuc c) h l = absurd (omega (arith, ints))
-times-down (negsuc a) (pos b) (negsuc c) h l = omega (arith, ints)
-times-down (negsuc a) (negsuc b) (negsuc c) h l =
-    omega (arith, ints, mul-le-mul_right {m = suc b} {n = suc a} (suc c) (omega (arith, ints)))
 
 root-le-cases : (m n : ℕ) → m ≤ n → (root n < root m) ⊎ (root m ≤ root n) → root m ≤ root n
 root-le-cases m n h (inl less) =
@@ -59,10 +39,10 @@ abbrev pub product : ℤ → ℤ → ℤ
 product a b = floor_div (a *ℤ b) one
 
 pub product-up : (x y k : ℤ) → x ≤ℤ y → pos 0 ≤ℤ k → product x k ≤ℤ product y k
-product-up x y k h l = floor-le (x *ℤ k) (y *ℤ k) one (lit< tt) (times-up x y k h l)
+product-up x y k h l = floor-le (x *ℤ k) (y *ℤ k) one (lit< tt) (times_up x y k h l)
 
 pub product-down : (x y k : ℤ) → x ≤ℤ y → k ≤ℤ pos 0 → product y k ≤ℤ product x k
-product-down x y k h l = floor-le (y *ℤ k) (x *ℤ k) one (lit< tt) (times-down x y k h l)
+product-down x y k h l = floor-le (y *ℤ k) (x *ℤ k) one (lit< tt) (times_down x y k h l)
 
 pub product-comm : (a b : ℤ) → product a b ≡ product b a
 product-comm a b = ap (λ z. floor_div z one) (*ℤ_comm a b)
@@ -79,7 +59,7 @@ quotient a d = floor_div (a *ℤ pos one) d
 
 pub quotient-up : (x y : ℤ) (d : ℕ) → 0 < d → x ≤ℤ y → quotient x d ≤ℤ quotient y d
 quotient-up x y d h k =
-    floor-le (x *ℤ pos one) (y *ℤ pos one) d h (times-up x y (pos one) k (le_z_yes tt))
+    floor-le (x *ℤ pos one) (y *ℤ pos one) d h (times_up x y (pos one) k (le_z_yes tt))
 
 div-anti : (n d e : ℕ) → 0 < d → d ≤ e → n / e ≤ n / d
 div-anti n d e h k =
@@ -98,8 +78,8 @@ floor-rise (negsuc n) d e h k l = omega (arith, ints, div-anti n d e h k)
 
 pub quotient-down : (a : ℤ) (d e : ℕ) → 0 < d → d ≤ e → pos 0 ≤ℤ a → quotient a e ≤ℤ quotient a d
 quotient-down a d e h k l =
-    floor-down (a *ℤ pos one) d e h k (times-up (pos 0) a (pos one) l (le_z_yes tt))
+    floor-down (a *ℤ pos one) d e h k (times_up (pos 0) a (pos one) l (le_z_yes tt))
 
 pub quotient-rise : (a : ℤ) (d e : ℕ) → 0 < d → d ≤ e → a ≤ℤ pos 0 → quotient a d ≤ℤ quotient a e
 quotient-rise a d e h k l =
-    floor-rise (a *ℤ pos one) d e h k (times-up a (pos 0) (pos one) l (le_z_yes tt))
+    floor-rise (a *ℤ pos one) d e h k (times_up a (pos 0) (pos one) l (le_z_yes tt))

@@ -10,6 +10,11 @@ use Rattle.ldp_range.specs.Range.{pair_high_abs}
 use Rattle.ldp_range.specs.Twin.{IsHeld, ends_twin, twin_most, twin_fewest}
 use Rattle.ldp_range.specs.Related.{Follows, ResultsFollow, ValuesFollow}
 
+-- Each operation is defined at numbers wherever it is at ranges that they lie in, and its result
+-- lies in that of the ranges.
+abbrev pub OperationsHold : Type 0
+OperationsHold = Follows LiesIn number_ops range_ops
+
 -- Inclusion: at each point of the ranges, a list has a value wherever it has one in ranges, and
 -- each number of it lies in its range.
 abbrev pub Inclusion : Type 0
@@ -25,6 +30,7 @@ abbrev pub Sharpness : Type 0
 Sharpness = (list : StepList) (points : List ℤ)
     → value_in range_ops list (map twice points) ≡ option_map (map twice) (value list points)
 
+-- the same of the results of all steps
 abbrev pub StepSharpness : Type 0
 StepSharpness = (steps : List Step) (points : List ℤ)
     → results_of range_ops (map twice points) steps
@@ -44,6 +50,7 @@ StepIsotony = ResultsFollow IsNarrower range_ops range_ops
 abbrev pub TwinInclusion : Type 0
 TwinInclusion = ValuesFollow IsHeld range_ops twin_ops
 
+-- the same of the results of all steps
 abbrev pub StepTwinInclusion : Type 0
 StepTwinInclusion = ResultsFollow IsHeld range_ops twin_ops
 
@@ -57,15 +64,16 @@ Following A B = (R : A → B → Bool) (f : Ops A) (g : Ops B)
 abbrev pub HullHolds : Type 0
 HullHolds = (n : ℤ) (a b : ℤ × ℤ) → LiesIn n a ⊎ LiesIn n b → LiesIn n (pair_hull a b)
 
--- a number of the range has no lesser absolute value than the least, and no greater one than the
--- greatest
+-- the absolute value of a number is from the least to the greatest of a range
 pub record IsAbsoluteBetween (n : ℤ) (a : ℤ × ℤ) : Type 0 where
   pub least : pair_low_abs a ≤ℤ magnitude n
   pub greatest : magnitude n ≤ℤ pair_high_abs a
 
+-- these bounds hold for each number of a range
 abbrev pub AbsoluteBounds : Type 0
 AbsoluteBounds = (n : ℤ) (a : ℤ × ℤ) → LiesIn n a → IsAbsoluteBetween n a
 
+-- the least absolute value of a range is at least 0
 abbrev pub LeastIsNatural : Type 0
 LeastIsNatural = (a : ℤ × ℤ) → pos 0 ≤ℤ pair_low_abs a
 
@@ -74,11 +82,12 @@ abbrev pub AbsoluteOfOne : Type 0
 AbsoluteOfOne = (n : ℤ)
     → (pair_low_abs (twice n) ≡ magnitude n) × (pair_high_abs (twice n) ≡ magnitude n)
 
--- a twin of ranges bounds the least absolute value of each of them, from above and from below
+-- the twin's bound from above: no range that it stands for has a greater least absolute value
 abbrev pub TwinMost : Type 0
 TwinMost = (range : ℤ × ℤ) (twin : TwinPair) → IsHeld range twin
     → pair_low_abs range ≤ℤ twin_most twin
 
+-- the twin's bound from below: no range that it stands for has a lesser least absolute value
 abbrev pub TwinFewest : Type 0
 TwinFewest = (range : ℤ × ℤ) (twin : TwinPair) → IsHeld range twin
     → twin_fewest twin ≤ℤ pair_low_abs range

@@ -1,7 +1,8 @@
 -- What a range is asked besides the operations of a formula. It is seen as the pair of its ends.
 -- (Own choice of this project.)
-use Rattle.std.specs.Prelude.{◌&&◌, ◌≤ℤ◌, int_le, ℤ, pos, unsigned_abs, if◌then◌else◌}
+use Rattle.std.specs.Prelude.{◌&&◌, ◌≤ℤ◌, int_le, ℤ, pos, if◌then◌else◌}
 use Rattle.std.specs.Int.{int_min, int_max}
+pub use Rattle.ldp_num.specs.Ranges.{magnitude, pair_high_abs}
 
 -- the pair of equal ends
 abbrev pub twice : ℤ → ℤ × ℤ
@@ -22,15 +23,8 @@ pub record IsNarrower (narrow wide : ℤ × ℤ) : Type 0 where
 abbrev pub pair_hull : ℤ × ℤ → ℤ × ℤ → ℤ × ℤ
 pair_hull a b = (int_min a.0 b.0, int_max a.1 b.1)
 
-abbrev pub magnitude : ℤ → ℤ
-magnitude n = pos (unsigned_abs n)
-
 -- the least absolute value in the range
 abbrev pub pair_low_abs : ℤ × ℤ → ℤ
 pair_low_abs a =
     if int_le a.0 (pos 0) && int_le (pos 0) a.1 then pos 0
     else int_min (magnitude a.0) (magnitude a.1)
-
--- the greatest absolute value in the range
-abbrev pub pair_high_abs : ℤ × ℤ → ℤ
-pair_high_abs a = int_max (magnitude a.0) (magnitude a.1)

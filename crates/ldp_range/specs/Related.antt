@@ -22,6 +22,7 @@ pub record Reaches {A B : Type 0} (R : A → B → Type 0) (found : Option A) (t
 abbrev pub FollowsOne : {A B : Type 0} → (A → B → Type 0) → (A → Option A) → (B → Option B) → Type 0
 FollowsOne {A} {B} R f g = (a : A) (b t : B) → R a b → g b ≡ Some t → Reaches R (f a) t
 
+-- the same of operations of two values
 abbrev pub FollowsTwo : {A B : Type 0} → (A → B → Type 0)
     → (A → A → Option A) → (B → B → Option B) → Type 0
 FollowsTwo {A} {B} R f g =

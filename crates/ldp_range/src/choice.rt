@@ -4,7 +4,7 @@ ghost use Rattle.std.specs.Int.{int_min, int_max};
 ghost use Rattle.ldp_num.specs.Number.{IsNumber};
 ghost use Rattle.ldp_range.specs.Choice.{of_both};
 
-// The first where x is at least 0, the second where it is below.
+/// The first where x is at least 0, the second where it is below.
 #[inline(always)]
 pub fn by_sign(x: i128, a: i128, b: i128) -> i128
     requires first { IsNumber a }
@@ -15,6 +15,7 @@ pub fn by_sign(x: i128, a: i128, b: i128) -> i128
     if 0 <= x { a } else { b }
 }
 
+/// The lesser of two numbers.
 #[inline(always)]
 pub fn lesser(a: i128, b: i128) -> i128
     requires left { IsNumber a }
@@ -27,6 +28,7 @@ pub fn lesser(a: i128, b: i128) -> i128
     if b < a { b } else { a }
 }
 
+/// The greater of two numbers.
 #[inline(always)]
 pub fn greater(a: i128, b: i128) -> i128
     requires left { IsNumber a }
@@ -39,7 +41,7 @@ pub fn greater(a: i128, b: i128) -> i128
     if b < a { a } else { b }
 }
 
-// The lesser of two values, where both are defined.
+/// The lesser of two values, where both are defined.
 #[inline(always)]
 pub fn least_of(a: Option<i128>, b: Option<i128>) -> Option<i128>
     requires left { IfSome a IsNumber }
@@ -53,7 +55,7 @@ pub fn least_of(a: Option<i128>, b: Option<i128>) -> Option<i128>
     }
 }
 
-// The greater of two values, where both are defined.
+/// The greater of two values, where both are defined.
 #[inline(always)]
 pub fn greatest_of(a: Option<i128>, b: Option<i128>) -> Option<i128>
     requires left { IfSome a IsNumber }
@@ -67,7 +69,7 @@ pub fn greatest_of(a: Option<i128>, b: Option<i128>) -> Option<i128>
     }
 }
 
-// The absolute value.
+/// The absolute value.
 #[inline(always)]
 pub fn magnitude(x: i128) -> i128
     requires { IsNumber x }
@@ -77,7 +79,7 @@ pub fn magnitude(x: i128) -> i128
     if x < 0 { -x } else { x }
 }
 
-// The number on the other side of 0, as far from it.
+/// The number on the other side of 0, as far from it.
 #[inline(always)]
 pub fn opposite(x: i128) -> i128
     requires { IsNumber x }

@@ -1,9 +1,14 @@
 //! The laws of ranges, for a formula as a whole, and for a range.
 ghost use Rattle.ldp_range.specs.Laws.{Inclusion, StepInclusion, Sharpness, StepSharpness};
-ghost use Rattle.ldp_range.specs.Laws.{Following};
+ghost use Rattle.ldp_range.specs.Laws.{OperationsHold, Following};
 ghost use Rattle.ldp_range.specs.Laws.{Isotony, StepIsotony, TwinInclusion, StepTwinInclusion};
 ghost use Rattle.ldp_range.specs.Laws.{TwinMost, TwinFewest, OwnTwin, TwinOfNumbers};
 ghost use Rattle.ldp_range.specs.Laws.{HullHolds, AbsoluteBounds, LeastIsNatural, AbsoluteOfOne};
+
+/// Each operation at ranges holds it at each of their numbers.
+pub fn operations()
+    ensures { OperationsHold }
+{}
 
 /// A run in ranges holds each run at a point of its ranges.
 pub fn inclusion()

@@ -4,7 +4,7 @@
 
 mod choice;
 pub mod laws;
-mod pairs;
+pub mod pairs;
 mod product;
 mod quotient;
 mod range;

@@ -5,8 +5,8 @@ use crate::choice::{by_sign, greatest_of, least_of};
 use crate::range::{Range, paired};
 use ldp_num::mul;
 
-// The product of two ranges, [lo, hi] and [low, high]. The signs of the ends say which corners are
-// the least and the greatest.
+/// The product of two ranges, [lo, hi] and [low, high]. The signs of the ends say which corners are
+/// the least and the greatest.
 #[inline(always)]
 pub fn product(lo: i128, hi: i128, low: i128, high: i128) -> Option<Range>
     requires left { IsRange lo hi }

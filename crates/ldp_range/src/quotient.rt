@@ -5,7 +5,7 @@ use crate::choice::by_sign;
 use crate::range::{Range, paired};
 use ldp_num::div;
 
-// The quotient of [lo, hi] by [low, high], for a low end of the divisor above 0.
+/// The quotient of [lo, hi] by [low, high], for a low end of the divisor above 0.
 #[inline(always)]
 pub fn quotient(lo: i128, hi: i128, low: i128, high: i128) -> Option<Range>
     requires left { IsRange lo hi }

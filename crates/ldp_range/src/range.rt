@@ -73,9 +73,9 @@ pub(crate) fn greatest(x: Range, y: Range) -> Range
     }
 }
 
-// The range of two ends, where both are defined.
+/// The range of two ends, where both are defined.
 #[inline(always)]
-pub(crate) fn paired(low: Option<i128>, high: Option<i128>) -> Option<Range>
+pub fn paired(low: Option<i128>, high: Option<i128>) -> Option<Range>
     requires low { IfSome low IsNumber }
     requires high { IfSome high IsNumber }
     requires ordered { (l h : ℤ) → low ≡ Some l → high ≡ Some h → l ≤ℤ h }
@@ -182,5 +182,10 @@ impl Num for Range {
     #[inline(always)]
     fn need(self) -> Option<Range> {
         paired(ldp_num::need(self.lo), ldp_num::need(self.hi))
+    }
+
+    #[inline(always)]
+    fn same(self, other: Range) -> bool {
+        self.lo == other.lo && self.hi == other.hi
     }
 }

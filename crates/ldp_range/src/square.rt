@@ -5,7 +5,7 @@ use crate::choice::greatest_of;
 use crate::range::{Range, paired};
 use ldp_num::sq;
 
-// The square of [lo, hi].
+/// The square of [lo, hi].
 #[inline(always)]
 pub fn square(lo: i128, hi: i128) -> Option<Range>
     requires { IsRange lo hi }

@@ -142,4 +142,9 @@ impl Num for Twin {
     fn need(self) -> Option<Twin> {
         joined(self.low.need(), self.high.need())
     }
+
+    #[inline(always)]
+    fn same(self, other: Twin) -> bool {
+        self.low.same(other.low) && self.high.same(other.high)
+    }
 }

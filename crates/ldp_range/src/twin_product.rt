@@ -7,7 +7,7 @@ use crate::pairs::{greater_range, is_at_most_zero, is_natural, lesser_range, tim
 use crate::range::Range;
 use crate::twin::{Twin, joined};
 
-// The product of two twins. The signs of the ranges say which of their products hold the ends.
+/// The product of two twins. The signs of the ranges say which of their products hold the ends.
 #[inline(always)]
 pub fn product(a: Twin, b: Twin) -> Option<Twin>
     ensures { result ≡ twin_mul a b }

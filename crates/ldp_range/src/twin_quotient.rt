@@ -6,7 +6,7 @@ use crate::pairs::{greater_range, is_at_most_zero, is_natural, lesser_range, ove
 use crate::range::Range;
 use crate::twin::{Twin, joined};
 
-// The quotient of two twins, for low ends of the divisor above 0.
+/// The quotient of two twins, for low ends of the divisor above 0.
 #[inline(always)]
 pub fn quotient(a: Twin, b: Twin) -> Option<Twin>
     ensures { result ≡ twin_div a b }

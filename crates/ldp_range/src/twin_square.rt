@@ -7,7 +7,7 @@ use crate::range::{Range, paired};
 use crate::twin::{Twin, joined};
 use ldp_num::sq;
 
-// The square of a twin.
+/// The square of a twin.
 #[inline(always)]
 pub fn square(a: Twin) -> Option<Twin>
     ensures { result ≡ twin_sq a }

@@ -1,11 +1,9 @@
 -- Bounds and costs in order.
 use Rattle.std.proofs.Common.{◌≡◌, Bool, true, false, ◌||◌, List, [], ◌∷◌, map, refl, ap}
-use Rattle.std.proofs.lemmas.Cmp.{on_total, then_total, nat_cmp_total, tied_itself}
+use Rattle.std.proofs.lemmas.Cmp.{tied_itself}
 use Rattle.std.proofs.lemmas.List.Elements.{All-nil, All-cons}
-use Rattle.std.proofs.lemmas.List.Sorted.{ranks_by}
 use Rattle.std.specs.Prelude.{All}
 use Rattle.std.specs.BinaryHeap.{IsUpperBound}
-use Rattle.std.specs.Cmp.{IsTotalOrder, IsStrictWeakOrder}
 use Rattle.std.specs.Ordering.{ordering_then, is_lt}
 use Rattle.std.specs.declared.cmp.Ordering.{Ordering}
 use Rattle.std.specs.declared.cmp.Ordering.TheVariants.{Less, Equal, Greater}
@@ -13,8 +11,9 @@ use Rattle.std.specs.declared.cmp.Reverse.{Reverse}
 use Rattle.ldp_design.specs.Designs.{design_cmp}
 use Rattle.ldp_problem.specs.declared.pair.Pair.{Pair}
 use Rattle.ldp_problem.specs.Pairs.{AtMost, is_smaller, pair_cmp}
+use Rattle.ldp_problem.proofs.Pairs.{pair_total, at_most_trans}
 use Rattle.ldp_optimum.specs.Best.{Ranked, is_better}
-use Rattle.ldp_optimum.proofs.Order.{ranked_total}
+use Rattle.ldp_optimum.proofs.Order.{better_weak}
 use Rattle.ldp_search.specs.declared.bounded_box.BoundedBox.{BoundedBox}
 use Rattle.ldp_search.specs.Bounded.{box_cmp, bounded_cmp}
 
@@ -43,19 +42,6 @@ least_of_heap b (other ∷ others) h =
     (first_not_lt (pair_cmp other.0.low b.0.low) (box_cmp other.0.region b.0.region) h.0)
     (least_of_heap b others h.1)
 
-pair_total : IsTotalOrder pair_cmp
-pair_total = then_total (on_total (λ a. a.over) nat_cmp_total)
-    (on_total (λ a. a.value) nat_cmp_total)
-
-smaller_weak : IsStrictWeakOrder is_smaller
-smaller_weak = ranks_by pair_total (λ a. a)
-
-pub better_weak : IsStrictWeakOrder is_better
-better_weak = ranks_by ranked_total (λ x. x)
-
-pub at_most_trans : (a b c : Pair) → AtMost a b → AtMost b c → AtMost a c
-at_most_trans a b c h k = smaller_weak.chain c b a k h
-
 pub at_most_itself : (a : Pair) → AtMost a a
 at_most_itself a = ap is_lt (tied_itself pair_total a)
 
@@ -83,6 +69,3 @@ better_at_most x y h = first_not_lt (pair_cmp y.cost x.cost) (design_cmp y.desig
 pub below_better : (x y : Ranked) → is_smaller x.cost y.cost ≡ true → is_better y x ≡ false
 below_better x y h =
     better_weak.one_way x y (first_lt (pair_cmp x.cost y.cost) (design_cmp x.design y.design) h)
-
-pub not_better_itself : (x : Ranked) → is_better x x ≡ false
-not_better_itself x = ap is_lt (tied_itself ranked_total x)

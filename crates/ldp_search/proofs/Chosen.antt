@@ -15,7 +15,8 @@ use Rattle.ldp_design.specs.declared.family.Family.{Family}
 use Rattle.ldp_design.specs.Families.{family_of}
 use Rattle.ldp_design.specs.Designs.{IsAdmitted}
 use Rattle.ldp_design.specs.Boxes.{LiesIn, IsIn, is_single}
-use Rattle.ldp_design.specs.Splits.{AreParts, cut_for, parts_at, split_of}
+use Rattle.ldp_design.specs.Splits.{cut_for, parts_at, split_of}
+use Rattle.ldp_design.specs.Laws.{AreParts}
 use Rattle.ldp_design.proofs.Cuts.{cuts_part}
 use Rattle.ldp_design.proofs.Splits.{splits_cut}
 use Rattle.ldp_design.specs.Forests.{node_count}
@@ -35,7 +36,8 @@ use Rattle.ldp_search.specs.Candidates.{cost_shown, cost_held, ranked_of, IsCand
 use Rattle.ldp_search.specs.Explored.{nodes_of, nodes_on, Advances, Holds, IsSplittable, IsBeaten}
 use Rattle.ldp_search.specs.Explored.{IsAccounted, IsExplored, IsWaiting, IsReady, IsDone, later}
 use Rattle.ldp_search.specs.Explored.{waiting, held, beaten}
-use Rattle.ldp_search.proofs.Bounds.{or_true, at_most_itself, at_most_trans, better_at_most}
+use Rattle.ldp_problem.proofs.Pairs.{at_most_trans}
+use Rattle.ldp_search.proofs.Bounds.{or_true, at_most_itself, better_at_most}
 use Rattle.ldp_search.proofs.Bounds.{below_better, below_at_most}
 use Rattle.ldp_search.proofs.Counts.{nodes_split, nodes_closed}
 use Rattle.ldp_search.proofs.Judged.{candidate_ranked, held_above}

@@ -13,7 +13,8 @@ use Rattle.ldp_optimum.proofs.Bests.{usable_ranked, best_least, no_best_none_usa
 use Rattle.ldp_search.specs.declared.candidate.Candidate.{Candidate}
 use Rattle.ldp_search.specs.Candidates.{cost_shown, cost_held, ranked_of, better_of, IsCandidate}
 use Rattle.ldp_search.specs.Explored.{IsBeaten}
-use Rattle.ldp_search.proofs.Bounds.{at_most_below, not_better_itself, better_weak}
+use Rattle.ldp_optimum.proofs.Order.{better_weak, not_better_itself}
+use Rattle.ldp_search.proofs.Bounds.{at_most_below}
 
 -- a candidate shows the cost of its design
 pub cost_is : (p : Problem) (c : Candidate) → IsCandidate p c → cost_shown c ≡ cost p c.design

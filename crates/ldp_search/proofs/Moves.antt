@@ -12,7 +12,8 @@ use Rattle.ldp_design.specs.declared.design_box.DesignBox.{DesignBox}
 use Rattle.ldp_design.specs.declared.family.Family.{Family}
 use Rattle.ldp_design.specs.Families.{AreGrids, family_of}
 use Rattle.ldp_design.specs.Designs.{IsAdmitted}
-use Rattle.ldp_design.specs.Boxes.{LiesIn, IsIn, IsWhole, whole_of}
+use Rattle.ldp_design.specs.Boxes.{LiesIn, IsIn, whole_of}
+use Rattle.ldp_design.specs.Laws.{IsWhole}
 use Rattle.ldp_design.proofs.Wholes.{wholes_hold}
 use Rattle.ldp_problem.specs.Problem.{Problem, IsSound}
 use Rattle.ldp_problem.specs.Costs.{IsUsable}

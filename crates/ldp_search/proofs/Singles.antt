@@ -1,16 +1,12 @@
 -- Boxes of one design.
 use Rattle.std.specs.Prelude.{ℤ, pos, unsigned_abs}
-use Rattle.std.proofs.Common.{◌≡◌, ◌≤◌, ℕ, Bool, true, false, List, Option, None, Some, refl, sym}
-use Rattle.std.proofs.Common.{ap, ◌∙◌, arith}
-use Rattle.ldp_design.specs.declared.axis.AxisName.TheVariants.{Lat, Lon, Azimuth, Scale}
+use Rattle.std.proofs.Common.{◌≡◌, ℕ, Bool, true, false, Option, None, Some, refl, sym}
+use Rattle.std.proofs.Common.{ap, ◌∙◌}
 use Rattle.ldp_design.specs.declared.design.Design.{Design}
 use Rattle.ldp_design.specs.declared.design_box.DesignBox.{DesignBox}
-use Rattle.ldp_design.specs.declared.family.Family.{Family}
-use Rattle.ldp_design.specs.Boxes.{LiesIn, IsIn, IsSingle, is_single, first_of, span_of}
-use Rattle.ldp_design.specs.Designs.{index_of}
-use Rattle.ldp_design.specs.Splits.{family_cut}
-use Rattle.ldp_design.proofs.Splits.{singles_end}
-use Rattle.ldp_design.proofs.Wholes.{boxes_are_admitted, singles_have_one}
+use Rattle.ldp_design.specs.Boxes.{LiesIn, IsIn, IsSingle, is_single, first_of}
+use Rattle.ldp_design.proofs.Splits.{singles_are_tested}
+use Rattle.ldp_design.proofs.Wholes.{firsts_are_admitted, singles_have_one}
 use Rattle.ldp_problem.specs.Problem.{Problem, IsSound}
 use Rattle.ldp_problem.specs.Costs.{IsUsable, bound, bound_cell, first_undefined, unusable_at}
 use Rattle.ldp_problem.specs.Costs.{bound_answer, bound_of}
@@ -54,24 +50,6 @@ low_said p b over value cell e = by_cell (unusable_at p b) refl e
     by_cell None h k = record { usable = h; over = cc; value = cc; cell = cc }
     by_cell (Some c) h k = absurd cc
 
-pub single_is : (families : List Family) (b : DesignBox) → LiesIn families b → is_single b ≡ true
-    → IsSingle b
-unfolding family_cut
-single_is families b lies e = (singles_end families b lies).0 (rw (lies.found, e) refl)
-
-pub first_in : (b : DesignBox) → IsSingle b → IsIn (first_of b) b
-first_in b one = record {
-  family = refl;
-  low = λ axis. elim axis as (λ a. (span_of a b).lo ≤ index_of a (first_of b))
-      [ Lat ↦ omega arith | Lon ↦ omega arith | Azimuth ↦ omega arith | Scale ↦ omega arith ];
-  high = λ axis. elim axis as (λ a. index_of a (first_of b) ≤ (span_of a b).hi) [
-    | Lat ↦ omega (arith, one.one Lat)
-    | Lon ↦ omega (arith, one.one Lon)
-    | Azimuth ↦ omega (arith, one.one Azimuth)
-    | Scale ↦ omega (arith, one.one Scale)
-  ];
-}
-
 -- a single that has an undefined cell has no usable design
 pub none_usable : (p : Problem) (b : DesignBox) (cell : ℕ) (d : Design) → LiesIn p.families b
     → unusable_at p b ≡ Some cell → IsIn d b → IsUsable p d → ⊥
@@ -80,7 +58,7 @@ none_usable p b cell d lies e within usable = by_test (is_single b) refl
     by_test : (t : Bool) → is_single b ≡ t → ⊥
     by_test true s =
         let same : d ≡ first_of b =
-        (singles_have_one b d (single_is p.families b lies s) within).0 in
+        (singles_have_one b d ((singles_are_tested b).0 s) within).0 in
         let none : first_undefined p d ≡ None = usable_has_none p d usable in
         let first : first_undefined p (first_of b) ≡ Some cell = rw s at e in
         let contrary : None ≡ Some cell = sym none ∙ ap (first_undefined p) same ∙ first in
@@ -92,11 +70,11 @@ pub single_candidate : (p : Problem) (b : DesignBox) (over : ℕ) (value : ℤ) 
     → LiesIn p.families b → is_single b ≡ true → IsLow p b over value cell
     → IsCandidate p record { design = first_of b; over = over; worst = value; cell = cell }
 single_candidate p b over value cell sound lies s low =
-    let one : IsSingle b = single_is p.families b lies s in
+    let one : IsSingle b = (singles_are_tested b).0 s in
     let none : first_undefined p (first_of b) ≡ None = rw s at low.usable in
     let exact = single_exact p b sound lies one in
     record {
-      admitted = boxes_are_admitted p.families b (first_of b) lies (first_in b one);
+      admitted = firsts_are_admitted p.families b lies;
       usable = none_undefined p (first_of b) none;
       over = low.over ∙ ap (λ x. x.over) exact.0;
       worst = low.value ∙ ap (λ x. pos x.value) exact.0;
@@ -109,5 +87,5 @@ pub several_usable : (p : Problem) (b : DesignBox) → LiesIn p.families b → (
 several_usable p b lies several = by_test (is_single b) refl
   where
     by_test : (t : Bool) → is_single b ≡ t → unusable_at p b ≡ None
-    by_test true e = absurd (several (single_is p.families b lies e))
+    by_test true e = absurd (several ((singles_are_tested b).0 e))
     by_test false e = rw e refl

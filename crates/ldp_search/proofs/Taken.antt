@@ -8,6 +8,7 @@ use Rattle.std.specs.List.Sorted.{IsPermutation}
 use Rattle.ldp_design.specs.declared.design.Design.{Design}
 use Rattle.ldp_design.specs.declared.design_box.DesignBox.{DesignBox}
 use Rattle.ldp_design.specs.Boxes.{LiesIn, IsSingle, is_single, first_of}
+use Rattle.ldp_design.proofs.Splits.{singles_are_tested}
 use Rattle.ldp_design.proofs.Wholes.{singles_have_one}
 use Rattle.ldp_problem.specs.declared.bound.Bound.TheVariants as bounds
 use Rattle.ldp_problem.specs.Problem.{Problem}
@@ -23,7 +24,7 @@ use Rattle.ldp_search.proofs.Bounds.{or_true, below_at_most, below_better}
 use Rattle.ldp_search.proofs.Counts.{nodes_unusable, nodes_closed}
 use Rattle.ldp_search.proofs.Judged.{held_above, better_candidate, stays_beaten, new_beaten}
 use Rattle.ldp_search.proofs.Moves.{explored_closed, explored_kept}
-use Rattle.ldp_search.proofs.Singles.{IsLow, low_pair, low_said, unusable_said, single_is}
+use Rattle.ldp_search.proofs.Singles.{IsLow, low_pair, low_said, unusable_said}
 use Rattle.ldp_search.proofs.Singles.{none_usable, single_candidate}
 
 on_ok : {T E P : Type 0} (r : Result T E) → P → OnOk r P
@@ -58,7 +59,7 @@ taken_single p b over value cell s e single begun pending x =
     (better_candidate p s.best c x.best is))
     (λ d h. stays_beaten p s.best c d h)
     (λ d h u. subst (IsBeaten p (Some (better_of s.best c)))
-    (sym (singles_have_one b d (single_is p.families b lies single) h).0)
+    (sym (singles_have_one b d ((singles_are_tested b).0 single) h).0)
     (new_beaten p s.best c is))
   where
     inside_some : (y z : Candidate) → Some y ≡ Some z → y ≡ z

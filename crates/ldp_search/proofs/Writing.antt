@@ -10,8 +10,9 @@ use Rattle.ldp_design.specs.declared.family.Family.{Family}
 use Rattle.ldp_design.specs.declared.node.Node.{Node}
 use Rattle.ldp_design.specs.declared.node.Node.TheVariants.{Split, Leaf, Unusable}
 use Rattle.ldp_design.specs.Families.{AreGrids}
-use Rattle.ldp_design.specs.Boxes.{LiesIn, AllLieIn, is_single}
-use Rattle.ldp_design.specs.Splits.{AreParts, cut_for, family_cut, parts_at}
+use Rattle.ldp_design.specs.Boxes.{LiesIn, is_single}
+use Rattle.ldp_design.specs.Laws.{AllLieIn, AreParts}
+use Rattle.ldp_design.specs.Splits.{cut_for, family_cut, parts_at}
 use Rattle.ldp_design.proofs.Cuts.{cuts_part}
 use Rattle.ldp_design.proofs.Splits.{splits_cut}
 use Rattle.ldp_problem.specs.declared.pair.Pair.{Pair}

@@ -6,7 +6,8 @@ use Rattle.ldp_design.specs.declared.design.Design.{Design}
 use Rattle.ldp_design.specs.declared.design_box.DesignBox.{DesignBox}
 use Rattle.ldp_design.specs.Families.{AreGrids}
 use Rattle.ldp_design.specs.Designs.{IsAdmitted}
-use Rattle.ldp_design.specs.Boxes.{LiesIn, IsIn, IsSingle, IsInSome, AllLieIn}
+use Rattle.ldp_design.specs.Boxes.{LiesIn, IsIn, IsSingle}
+use Rattle.ldp_design.specs.Laws.{IsInSome, AllLieIn}
 use Rattle.ldp_design.specs.Splits.{split_of}
 use Rattle.ldp_design.specs.Forests.{node_count}
 use Rattle.ldp_problem.specs.Problem.{Problem, IsSound}

@@ -2,7 +2,7 @@
 use Rattle.std.specs.Prelude.{◌≡◌, ◌+◌, ℕ, false, List, ◌++◌, flat_map, None}
 use Rattle.ldp_design.specs.declared.design_box.DesignBox.{DesignBox}
 use Rattle.ldp_design.specs.declared.node.Node.{Node}
-use Rattle.ldp_design.specs.Boxes.{AllLieIn}
+use Rattle.ldp_design.specs.Laws.{AllLieIn}
 use Rattle.ldp_problem.specs.Problem.{Problem}
 use Rattle.ldp_problem.specs.Costs.{bound, bound_cell, unusable_at}
 use Rattle.ldp_optimum.specs.Best.{least}

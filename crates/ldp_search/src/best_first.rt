@@ -25,7 +25,7 @@ pub fn search<B: Bounds>(
     grids: &Grids,
     budget: u32,
 ) -> Result<Found, SearchFault>
-    requires grids { (B.problem bounds.old).families ≡ grids.now }
+    requires grids { (B.problem bounds.old).families ≡ grids.now.families }
     requires few { budget ≤ 1_000_000 }
 
     // What is found is the best design and the canonical forest.
@@ -34,18 +34,18 @@ pub fn search<B: Bounds>(
 
     // In a reader's words: the design is admissible and usable and has this cost, no usable
     // admissible design has a smaller one, and of the same cost none comes earlier.
-    ensures admitted { IfOk result (λ f. IsAdmitted grids.now f.design) }
+    ensures admitted { IfOk result (λ f. IsAdmitted grids.now.families f.design) }
     ensures usable { IfOk result (λ f. IsUsable (B.problem bounds.old) f.design) }
     ensures cost { IfOk result (HasCost (B.problem bounds.old)) }
-    ensures smallest { IfOk result (λ f. (d : Design) → IsAdmitted grids.now d
+    ensures smallest { IfOk result (λ f. (d : Design) → IsAdmitted grids.now.families d
         → IsUsable (B.problem bounds.old) d
         → AtMost (cost (B.problem bounds.old) f.design) (cost (B.problem bounds.old) d)) }
-    ensures first { IfOk result (λ f. (d : Design) → IsAdmitted grids.now d
+    ensures first { IfOk result (λ f. (d : Design) → IsAdmitted grids.now.families d
         → IsUsable (B.problem bounds.old) d
         → cost (B.problem bounds.old) d ≡ cost (B.problem bounds.old) f.design
         → is_lt (design_cmp d f.design) ≡ false) }
     ensures none { (nodes : ℕ) (d : Design) → result ≡ Err (SearchFault.NoUsable nodes)
-        → IsAdmitted grids.now d → IsUsable (B.problem bounds.old) d → ⊥ }
+        → IsAdmitted grids.now.families d → IsUsable (B.problem bounds.old) d → ⊥ }
     ensures shape { IfOk result (λ f. IsWellShaped f.forest) }
 
     ensures same { B.problem bounds.new ≡ B.problem bounds.old }

@@ -1,9 +1,8 @@
 ghost use Rattle.std.specs.Prelude.{◌≡◌};
-ghost use Rattle.ldp_design.specs.Boxes.{first_of};
 ghost use Rattle.ldp_optimum.specs.Best.{is_better};
 ghost use Rattle.ldp_search.specs.Candidates.{cost_shown, ranked_of, better_of};
 
-use ldp_design::{Design, DesignBox};
+use ldp_design::Design;
 use ldp_problem::Pair;
 
 /// A usable design with its cost, in units of 10^-15, and the first cell of its worst distortion.
@@ -42,18 +41,5 @@ pub fn better_of(best: Option<Candidate>, candidate: Candidate) -> Candidate
     match best {
         Some(best) if !candidate.is_better(&best) => best,
         _ => candidate,
-    }
-}
-
-/// The design of a box of one design.
-pub fn design_of(b: &DesignBox) -> Design
-    ensures { result ≡ first_of b.now }
-{
-    Design {
-        family: b.family,
-        lat: b.lat.lo,
-        lon: b.lon.lo,
-        azimuth: b.azimuth.lo,
-        scale: b.scale.lo,
     }
 }

@@ -14,7 +14,7 @@ pub fn explore<B: Bounds>(
     state: &mut State,
     budget: u32,
 ) -> Result<(), SearchFault>
-    requires grids { (B.problem bounds.old).families ≡ grids.now }
+    requires grids { (B.problem bounds.old).families ≡ grids.now.families }
     requires fresh { state.old ≡ record { frontier = []; best = None; evaluated = 0 } }
     requires few { budget ≤ 1_000_000 }
     ensures done { OnOk result (IsDone (B.problem bounds.old) state.new) }
@@ -34,7 +34,7 @@ fn begin_all<B: Bounds>(
     state: &mut State,
     budget: u32,
 ) -> Result<(), SearchFault>
-    requires grids { (B.problem bounds.old).families ≡ grids.now }
+    requires grids { (B.problem bounds.old).families ≡ grids.now.families }
     requires fresh { state.old ≡ record { frontier = []; best = None; evaluated = 0 } }
     requires few { budget ≤ 1_000_000 }
     ensures next { OnOk result (IsWaiting (B.problem bounds.old) state.new) }
@@ -56,7 +56,7 @@ fn close_all<B: Bounds>(
     state: &mut State,
     budget: u32,
 ) -> Result<(), SearchFault>
-    requires grids { (B.problem bounds.old).families ≡ grids.now }
+    requires grids { (B.problem bounds.old).families ≡ grids.now.families }
     requires waiting { IsWaiting (B.problem bounds.old) state.old }
     requires few { budget ≤ 1_000_000 }
     requires within { state.old.evaluated ≤ budget }
@@ -81,7 +81,7 @@ fn split_box<B: Bounds>(
     budget: u32,
     b: &DesignBox,
 ) -> Result<(), SearchFault>
-    requires grids { (B.problem bounds.old).families ≡ grids.now }
+    requires grids { (B.problem bounds.old).families ≡ grids.now.families }
     requires ready { IsReady (B.problem bounds.old) b.now state.old }
     requires few { budget ≤ 1_000_000 }
     requires within { state.old.evaluated ≤ budget }

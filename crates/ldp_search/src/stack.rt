@@ -29,6 +29,7 @@ impl Stack {
         }
     }
 
+    /// Puts a box in front of the others: it is the next one.
     pub fn push(&mut self, b: DesignBox) -> Result<(), AllocError>
         ensures { OnOk result (self.new ≡ b ∷ self.old) }
     {
@@ -36,6 +37,7 @@ impl Stack {
         Ok(())
     }
 
+    /// Takes the next box, if there is one.
     pub fn pop(&mut self) -> Option<DesignBox>
         ensures some { IfSome result (λ b. self.old ≡ b ∷ self.new) }
         ensures none { IfNone result (self.old ≡ []) }

@@ -7,7 +7,7 @@ ghost use Rattle.ldp_search.specs.Candidates.{cost_held};
 ghost use Rattle.ldp_search.specs.Explored.{IsWaiting, Advances, IsReady, IsDone};
 
 use crate::bounded_box::BoundedBox;
-use crate::candidate::{Candidate, better_of, design_of};
+use crate::candidate::{Candidate, better_of};
 use crate::frontier::Frontier;
 use ldp_design::{DesignBox, is_single};
 use ldp_problem::{Bound, Pair};
@@ -25,6 +25,7 @@ pub struct State {
 }
 
 impl State {
+    /// No box is in front, and none was evaluated.
     pub fn new(alloc: Global) -> State
         ensures { result ≡ record { frontier = []; best = None; evaluated = 0 } }
     {
@@ -48,7 +49,7 @@ impl State {
             Bound::Low { over, value, cell } => {
                 if is_single(b) {
                     let candidate = Candidate {
-                        design: design_of(b),
+                        design: b.first(),
                         over,
                         worst: value,
                         cell,

@@ -1,6 +1,7 @@
 ghost use Rattle.std.specs.Prelude.{◌≡◌, ◌+◌, ◌≤◌, [], ◌++◌, OnOk, IfOk};
 ghost use Rattle.ldp_design.specs.Families.{AreGrids};
-ghost use Rattle.ldp_design.specs.Boxes.{LiesIn, AllLieIn};
+ghost use Rattle.ldp_design.specs.Boxes.{LiesIn};
+ghost use Rattle.ldp_design.specs.Laws.{AllLieIn};
 ghost use Rattle.ldp_problem.specs.Problem.{Problem};
 ghost use Rattle.ldp_optimum.specs.Best.{least};
 ghost use Rattle.ldp_optimum.specs.Forest.{forest, needed};
@@ -19,7 +20,7 @@ pub fn write_forest<B: Bounds>(
     grids: &Grids,
     cost: Pair,
 ) -> Result<Forest, AllocError>
-    requires grids { (B.problem bounds.old).families ≡ grids.now }
+    requires grids { (B.problem bounds.old).families ≡ grids.now.families }
     requires least { least (B.problem bounds.old) ≡ Some cost }
     ensures forest { IfOk result (λ written. written ≡ forest (B.problem bounds.old)) }
     ensures same { B.problem bounds.new ≡ B.problem bounds.old }
@@ -44,10 +45,10 @@ fn write_tree<B: Bounds>(
     stack: &mut Stack,
     forest: &mut Forest,
 ) -> Result<(), AllocError>
-    requires grids { AreGrids grids.now }
-    requires families { (B.problem bounds.old).families ≡ grids.now }
+    requires grids { AreGrids grids.now.families }
+    requires families { (B.problem bounds.old).families ≡ grids.now.families }
     requires least { least (B.problem bounds.old) ≡ Some cost }
-    requires lies { AllLieIn grids.now stack.old }
+    requires lies { AllLieIn grids.now.families stack.old }
     ensures trees { OnOk result
         (forest.new ≡ forest.old ++ trees_of (B.problem bounds.old) stack.old) }
     ensures empty { OnOk result (stack.new ≡ []) }
@@ -70,10 +71,10 @@ fn write_box<B: Bounds>(
     forest: &mut Forest,
     b: &DesignBox,
 ) -> Result<(), AllocError>
-    requires grids { AreGrids grids.now }
-    requires families { (B.problem bounds.old).families ≡ grids.now }
+    requires grids { AreGrids grids.now.families }
+    requires families { (B.problem bounds.old).families ≡ grids.now.families }
     requires least { least (B.problem bounds.old) ≡ Some cost }
-    requires lies { LiesIn grids.now b.now }
+    requires lies { LiesIn grids.now.families b.now }
     ensures writes { OnOk result
         (Writes (B.problem bounds.old) b.now stack.old stack.new forest.old forest.new) }
     ensures same { B.problem bounds.new ≡ B.problem bounds.old }
@@ -102,10 +103,10 @@ fn write_open(
     b: &DesignBox,
     cell: u32,
 ) -> Result<(), AllocError>
-    requires grids { AreGrids grids.now }
-    requires lies { LiesIn grids.now b.now }
-    ensures writes { OnOk result ((p : Problem) → p.families ≡ grids.now → IsOpen p b.now cell
-        → Writes p b.now stack.old stack.new forest.old forest.new) }
+    requires grids { AreGrids grids.now.families }
+    requires lies { LiesIn grids.now.families b.now }
+    ensures writes { OnOk result ((p : Problem) → p.families ≡ grids.now.families
+        → IsOpen p b.now cell → Writes p b.now stack.old stack.new forest.old forest.new) }
 {
     let Some((axis, at)) = cut_for(grids, b) else {
         return forest.push(Node::Leaf { cell });

@@ -1,4 +1,9 @@
 pub mod Extensions
 pub mod Fits
+pub mod Halved
+pub mod Kept
+pub mod Moves
+pub mod PartRuns
 pub mod Rounds
 pub mod Runs
+pub mod Stands

@@ -27,7 +27,7 @@ run_value ops m list inputs steps false run e h =
     ∙ ap (option_and_then (λ found. at_places found list.outs)) h
 
 -- one more result
-at_places-more : {A : Type 0} (run : List A) (places : List ℕ) (found : List A) (place : ℕ) (a : A)
+pub at_places-more : {A : Type 0} (run : List A) (places : List ℕ) (found : List A) (place : ℕ) (a : A)
     → at_places run places ≡ Some found → slice_get run place ≡ Some a
     → at_places run (places ++ place ∷ []) ≡ Some (found ++ a ∷ [])
 at_places-more run [] found place a h k = rw k (ap (λ xs. Some (xs ++ a ∷ [])) (same_Some _ _ h))

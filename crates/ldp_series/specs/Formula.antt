@@ -39,6 +39,7 @@ abbrev pub # : ℕ → Formula ℕ
 abbrev pub units : ℤ → Formula ℕ
 units v = step (Const v)
 
+-- a whole number as a constant
 abbrev pub whole : ℕ → Formula ℕ
 whole v = units (pos (v * one))
 
@@ -46,37 +47,46 @@ whole v = units (pos (v * one))
 abbrev pub fraction_units : ℤ → ℕ → ℤ
 fraction_units p q = floor_div (p *ℤ pos one) q
 
+-- the fraction p / q as a constant, rounded down; q is above 0
 abbrev pub fraction : ℕ → ℕ → Formula ℕ
 fraction p q = units (fraction_units (pos p) q)
 
+-- the steps of an operand, then the operation on its result
 abbrev pub of_one : (ℕ → Step) → Formula ℕ → Formula ℕ
 of_one operation a = do
   x ← a
   step (operation x)
 
+-- the steps of the left operand, those of the right one, then the operation on both results
 abbrev pub of_two : (ℕ → ℕ → Step) → Formula ℕ → Formula ℕ → Formula ℕ
 of_two operation a b = do
   x ← a
   y ← b
   step (operation x y)
 
+-- a sum; sums and differences bind less than products and quotients
 infixl 65 ◌+ᶠ◌ ◌-ᶠ◌
 infixl 70 ◌*ᶠ◌ ◌/ᶠ◌
 abbrev pub ◌+ᶠ◌ : Formula ℕ → Formula ℕ → Formula ℕ
 ◌+ᶠ◌ = of_two Add
 
+-- a difference
 abbrev pub ◌-ᶠ◌ : Formula ℕ → Formula ℕ → Formula ℕ
 ◌-ᶠ◌ = of_two Sub
 
+-- a product
 abbrev pub ◌*ᶠ◌ : Formula ℕ → Formula ℕ → Formula ℕ
 ◌*ᶠ◌ = of_two Mul
 
+-- a quotient, defined if the divisor is above 0
 abbrev pub ◌/ᶠ◌ : Formula ℕ → Formula ℕ → Formula ℕ
 ◌/ᶠ◌ = of_two Div
 
+-- a square, which takes one step
 abbrev pub square : Formula ℕ → Formula ℕ
 square = of_one Sq
 
+-- a square root, defined if its operand is at least 0
 abbrev pub √ : Formula ℕ → Formula ℕ
 √ = of_one Sqrt
 

@@ -1,3 +1,5 @@
+pub mod Cut
+pub mod CutRuns
 pub mod Draft
 pub mod Formula
 pub mod Series

@@ -2,6 +2,7 @@
 use Rattle.std.specs.Prelude.{◌≡◌, ℕ, length}
 use Rattle.ldp_series.specs.StepList.{StepList}
 
+-- a list takes so many inputs, and gives so many results
 pub record HasShape (taken given : ℕ) (list : StepList) : Type 0 where
   pub inputs : list.inputs ≡ taken
   pub outs : length list.outs ≡ given

@@ -3,15 +3,17 @@ use Rattle.std.specs.Prelude.{◌≡◌, ◌≤◌, ◌<◌, ℕ, zero, suc, Lis
 use Rattle.std.proofs.Common.{ap, ◌∙◌}
 use Rattle.ldp_num.specs.declared.step.Step.{Step}
 use Rattle.ldp_num.specs.declared.step.Step.TheVariants.{Input}
-use Rattle.ldp_num.specs.Steps.{StepsFit, most_steps}
+use Rattle.ldp_num.specs.Steps.{StepsFit, most_steps, most_inputs, most_results}
 pub use Rattle.ldp_num.specs.StepList.{StepList, at_places, value_in, value, first_result}
 use Rattle.ldp_series.specs.Draft.{Draft, Formula}
 
+-- each step takes inputs or earlier results alone, each result is that of a step, and none are too
+-- many
 pub record IsWellFormed (list : StepList) : Type 0 where
   pub fit : StepsFit list.inputs 0 list.steps
   pub small : length list.steps ≤ most_steps
-  pub few_inputs : list.inputs ≤ 16
-  pub few_outs : length list.outs ≤ 8
+  pub few_inputs : list.inputs ≤ most_inputs
+  pub few_outs : length list.outs ≤ most_results
   pub placed : All (λ place. place < length list.steps) list.outs
 
 -- the steps that take the inputs, in order

@@ -1,6 +1,6 @@
 ghost use Rattle.std.specs.Prelude.{◌≡◌, ◌+◌, ◌<◌, ◌≤◌, length, take, All, IfOk, OnErr};
 ghost use Rattle.ldp_num.specs.Number.{IsNumber};
-ghost use Rattle.ldp_num.specs.Steps.{StepFits, StepsFit, most_steps};
+ghost use Rattle.ldp_num.specs.Steps.{StepFits, StepsFit, most_steps, most_inputs, most_results};
 ghost use Rattle.ldp_series.specs.Draft.{Draft, HasRoom, Appends};
 ghost use Rattle.ldp_series.specs.Formula.{step, whole};
 ghost use Rattle.ldp_series.specs.StepList.{started, finished};
@@ -27,7 +27,7 @@ impl Model for Build {
     ghost view = { λ b. record { inputs = b.inputs; steps = b.steps.items } };
 
     ghost invariant = { λ b. (length b.steps.items ≤ most_steps)
-        × StepsFit b.inputs 0 b.steps.items × (b.inputs ≤ 16) };
+        × StepsFit b.inputs 0 b.steps.items × (b.inputs ≤ most_inputs) };
 }
 
 impl Build {
@@ -35,7 +35,7 @@ impl Build {
     /// below `inputs`.
     #[tactic(auto, using(crate::proofs::Fits::fits_push))]
     pub fn new(alloc: Global, inputs: u16) -> Result<Build, Memory>
-        requires few { inputs ≤ 16 }
+        requires few { inputs ≤ most_inputs }
         ensures ok { IfOk result (λ build. build ≡ started inputs) }
         ensures inputs { IfOk result (λ build. build.inputs ≡ inputs) }
         ensures count { IfOk result (λ build. length build.steps ≡ inputs) }
@@ -168,7 +168,7 @@ impl Build {
     /// `Memory`.
     pub fn finish(self, outs: &[u16]) -> Result<List, Memory>
         requires placed { All (λ place. place < length self.steps) outs.now }
-        requires few { length outs.now ≤ 8 }
+        requires few { length outs.now ≤ most_results }
         ensures { IfOk result (λ list. list ≡ finished (self, outs.now)) }
     {
         let Build { inputs, steps } = self;

@@ -3,6 +3,8 @@
 
 mod arctangent;
 mod build;
+mod cut;
+mod cut_runs;
 mod exponential;
 mod list;
 mod logarithm;
@@ -10,5 +12,6 @@ mod run;
 mod series;
 
 pub use build::{Build, ONE};
+pub use cut_runs::CutRuns;
 pub use list::{List, Lists};
 pub use std::alloc::AllocError as Memory;

@@ -1,8 +1,10 @@
-ghost use Rattle.std.specs.Prelude.{◌≡◌, ◌≤◌, ◌<◌, length, All};
-ghost use Rattle.ldp_num.specs.Steps.{StepsFit, most_steps};
+ghost use Rattle.std.specs.Prelude.{◌≡◌, ◌≤◌, ◌<◌, length, All, IfOk};
+ghost use Rattle.ldp_num.specs.Steps.{StepsFit, most_steps, most_inputs, most_results};
 ghost use Rattle.ldp_series.specs.StepList.{StepList, IsWellFormed};
 
+use crate::Memory;
 use ldp_num::Step;
+use std::alloc::Global;
 use std::marker::Model;
 
 /// A finished list: its steps, the places of its results, and the number of its inputs.
@@ -36,6 +38,15 @@ impl List {
         }
     }
 
+    /// The same list once more.
+    pub(crate) fn copied(&self, alloc: Global) -> Result<List, Memory>
+        ensures { IfOk result (λ copy. copy ≡ self.now) }
+    {
+        let steps = self.steps.to_vec(alloc)?;
+        let outs = self.outs.to_vec(alloc)?;
+        Ok(List::new(self.inputs, steps, outs))
+    }
+
     /// The steps, in order.
     pub fn steps(&self) -> &[Step]
         ensures steps { result.now ≡ self.now.steps }
@@ -48,7 +59,7 @@ impl List {
     /// The places of the results, in order.
     pub fn outs(&self) -> &[u16]
         ensures outs { result.now ≡ self.now.outs }
-        ensures few { length self.now.outs ≤ 8 }
+        ensures few { length self.now.outs ≤ most_results }
         ensures placed { All (λ place. place < length self.now.steps) self.now.outs }
     {
         &self.outs
@@ -57,7 +68,7 @@ impl List {
     /// The number of inputs.
     pub fn inputs(&self) -> u16
         ensures inputs { result ≡ self.now.inputs }
-        ensures few { self.now.inputs ≤ 16 }
+        ensures few { self.now.inputs ≤ most_inputs }
     {
         self.inputs
     }

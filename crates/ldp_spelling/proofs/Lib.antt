@@ -5,3 +5,4 @@ pub mod Written
 pub mod Pieces
 pub mod Plain
 pub mod Hashes
+pub mod Texts

@@ -11,11 +11,11 @@ use Rattle.std.proofs.lemmas.Str.Parse.{IsNumeralModel, numerals_by_fold}
 use Rattle.std.proofs.lemmas.Fmt.{digits_decimal}
 use Rattle.std.proofs.Math.Nat.{div-le_self, one-le-pow, pow-le-pow_right}
 use Rattle.hex.specs.Hex.{encode_lower, encode_with, lower_digits, IsBytes}
+use Rattle.ldp_num.specs.Number.{limit}
 use Rattle.ldp_decimal.specs.Grammar.{AreDigits, value_after}
 use Rattle.ldp_decimal.specs.Writing.{sign, padded, pointed, without_zeros, onto_kept, whole_digits}
 use Rattle.ldp_decimal.specs.Writing.{further_digits, decimal_text, trimmed_text}
 use Rattle.ldp_spelling.specs.Pieces.{is_plain}
-use Rattle.ldp_spelling.specs.Numbers.{limit}
 use Rattle.ldp_spelling.proofs.Pieces.{both}
 
 own : IsNumeralModel AreDigits (value_after 0)

@@ -8,11 +8,12 @@ use Rattle.std.proofs.lemmas.Int.{ints}
 use Rattle.std.proofs.lemmas.List.{append-nil}
 use Rattle.std.proofs.lemmas.Bool.Decides.{nat_tests}
 use Rattle.std.proofs.lemmas.Slice.Eq.{bytes_eq-Decides}
+use Rattle.ldp_num.specs.Number.{limit}
 use Rattle.ldp_decimal.specs.declared.fault.NumFault.{NumFault}
 use Rattle.ldp_decimal.specs.Reading.{decimal_of}
 use Rattle.ldp_decimal.specs.Writing.{decimal_text, trimmed_text}
 use Rattle.ldp_decimal.proofs.Spelled.{decimal_is_read, trimmed_is_read}
-use Rattle.ldp_spelling.specs.Numbers.{limit, as_written, trimmed_in, fixed_in, whole_as}
+use Rattle.ldp_spelling.specs.Numbers.{as_written, trimmed_in, fixed_in, whole_as}
 use Rattle.ldp_spelling.specs.Numbers.{magnitude_of, whole_in, IsWritten, IsWhole}
 
 pub if_some : {A : Type 0} (t : Bool) (x y : A) → (if t then Some x else None) ≡ Some y

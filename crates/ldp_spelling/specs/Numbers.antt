@@ -4,13 +4,10 @@
 use Rattle.std.specs.Prelude.{◌≡◌, ℕ, ◌≤◌, ◌&&◌, nat_le, ℤ, int_le, ◌≤ℤ◌, unsigned_abs, List}
 use Rattle.std.specs.Prelude.{[], ◌∷◌, ◌++◌, replicate, Option, Some, None, option_and_then, Result}
 use Rattle.std.specs.Prelude.{Ok, Err, bytes_eq, decimal, if◌then◌else◌}
+use Rattle.ldp_num.specs.Number.{limit}
 use Rattle.ldp_decimal.specs.declared.fault.NumFault.{NumFault}
 use Rattle.ldp_decimal.specs.Reading.{decimal_of}
 use Rattle.ldp_decimal.specs.Writing.{decimal_text, trimmed_text}
-
--- the greatest magnitude of a number
-abbrev pub limit : ℕ
-limit = 10000000000000000000
 
 -- a number from low to high, where the text is what is written for it
 abbrev pub as_written : (ℤ → List ℕ) → ℤ → ℤ → List ℕ → Result ℤ NumFault → Option ℤ
@@ -28,10 +25,12 @@ unfoldable pub fixed_in : ℕ → ℤ → ℤ → List ℕ → Option ℤ
 fixed_in places low high text =
     as_written (decimal_text places) low high text (decimal_of places limit text)
 
+-- n, if it is from low to high and the text is the one that is written for it
 abbrev pub whole_as : ℕ → ℕ → List ℕ → ℕ → Option ℕ
 whole_as low high text n =
     if nat_le low n && (nat_le n high && bytes_eq (decimal n) text) then Some n else None
 
+-- the absolute value of a number that was read; None if none was
 abbrev pub magnitude_of : Result ℤ NumFault → Option ℕ
 magnitude_of (Err fault) = None
 magnitude_of (Ok z) = Some (unsigned_abs z)
@@ -52,6 +51,7 @@ pub record IsWritten (write : ℤ → List ℕ) (low high : ℤ) (text : List �
   pub below : z ≤ℤ high
   pub spelled : text ≡ write z
 
+-- the text is what is written for a whole number from low to high
 pub record IsWhole (low high : ℕ) (text : List ℕ) (n : ℕ) : Type 0 where
   pub above : low ≤ n
   pub below : n ≤ high

@@ -27,16 +27,18 @@ ended [] = None
 ended (line ∷ []) = None
 ended (line ∷ next ∷ more) = Some (line, next ∷ more)
 
+-- the line of some words, with one space between two of them
 abbrev pub line_of : List (List ℕ) → List ℕ
 line_of words = join_with_byte 32 words
 
+-- the text of some lines, with a line feed behind each
 abbrev pub text_of : List (List ℕ) → List ℕ
 text_of lines = flat_map (λ line. line ++ 10 ∷ []) lines
 
--- has no space in it, and no control character
+-- every byte is above 32: no space, and no ASCII control character but DEL
 abbrev pub is_plain : List ℕ → Bool
 is_plain word = list_all (λ byte. nat_lt 32 byte) word
 
--- has no line feed in it
+-- every byte is above 10, so none is a line feed
 abbrev pub is_line : List ℕ → Bool
 is_line line = list_all (λ byte. nat_lt 10 byte) line

@@ -1,14 +1,13 @@
 ghost use Rattle.std.specs.Prelude.{◌≡◌, ◌≢◌, ◌≤◌, ◌<◌, ◌^◌, ◌≤ℤ◌, ◌++◌, ℕ, ℤ, pos, neg_ℤ};
 ghost use Rattle.std.specs.Prelude.{unsigned_abs, bytes_eq, List, replicate, MatchOption, IfSome};
+ghost use Rattle.ldp_num.specs.Number.{limit};
 ghost use Rattle.ldp_decimal.specs.Writing.{sign, without_zeros, whole_digits, trimmed_text};
 ghost use Rattle.ldp_decimal.specs.Writing.{decimal_text};
-ghost use Rattle.ldp_spelling.specs.Numbers.{behind_point, trimmed_in, fixed_in, IsWritten, limit};
+ghost use Rattle.ldp_spelling.specs.Numbers.{behind_point, trimmed_in, fixed_in, IsWritten};
 
 use itoa::Buffer;
 use ldp_decimal::read_decimal;
-
-/// The greatest magnitude of a number.
-pub const LIMIT: i128 = 10_000_000_000_000_000_000;
+use ldp_num::LIMIT;
 
 fn sign_of(number: i128) -> &'static [u8]
     ensures { result.now ≡ sign number }

@@ -1,13 +1,15 @@
 //! Laws of the definitions, for proofs: the functions do nothing.
 
 ghost use Rattle.std.specs.Prelude.{◌≡◌, ◌≤◌, ◌≤ℤ◌, ℕ, ℤ, pos, neg_ℤ, unsigned_abs, true, List, []};
-ghost use Rattle.std.specs.Prelude.{◌∷◌, ◌++◌, Some, decimal};
+ghost use Rattle.std.specs.Prelude.{◌∷◌, ◌++◌, map, Some, decimal};
 ghost use Rattle.std.specs.List.{list_all};
 ghost use Rattle.hex.specs.Hex.{encode_lower, IsBytes};
+ghost use Rattle.ldp_num.specs.Number.{limit};
 ghost use Rattle.ldp_decimal.specs.Writing.{decimal_text, trimmed_text};
 ghost use Rattle.ldp_spelling.specs.Pieces.{lines, words, line_of, text_of, is_plain, is_line};
-ghost use Rattle.ldp_spelling.specs.Numbers.{limit, whole_in, trimmed_in, fixed_in, IsWhole};
+ghost use Rattle.ldp_spelling.specs.Numbers.{whole_in, trimmed_in, fixed_in, IsWhole};
 ghost use Rattle.ldp_spelling.specs.Numbers.{IsWritten};
+ghost use Rattle.ldp_spelling.specs.Texts.{Words, line_text, lines_text};
 ghost use Rattle.ldp_spelling.specs.Hashes.{hash_in, IsHash};
 
 /// Lines and words that are put together are found again, and a text is its lines, a line its
@@ -22,6 +24,14 @@ pub fn pieces_are_found()
         → lines (text_of ls) ≡ ls ++ [] ∷ [] }
     ensures text { (text : List ℕ) (ls : List (List ℕ)) → lines text ≡ ls ++ [] ∷ []
         → text ≡ text_of ls }
+{}
+
+/// Lines of words that are written are a text of lines, and a line more is written behind them.
+pub fn lines_are_written()
+    ensures text { (lines : List Words) → text_of (map line_of lines) ≡ lines_text lines }
+    ensures more { (t0 t1 t2 : List ℕ) (lines all : List Words) (line : Words)
+        → t1 ≡ t0 ++ lines_text lines → t2 ≡ t1 ++ line_text line → all ≡ lines ++ line ∷ []
+        → t2 ≡ t0 ++ lines_text all }
 {}
 
 /// A number that is read is the one that is written, and a written number of the range is read.

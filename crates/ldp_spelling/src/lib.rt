@@ -6,11 +6,13 @@ mod decimal;
 mod hash;
 pub mod laws;
 mod lines;
+mod push;
 mod whole;
 mod words;
 
 pub use decimal::{read_fixed, read_trimmed};
 pub use hash::{hash_digits, read_hash};
 pub use lines::Lines;
+pub use push::{push_fixed, push_trimmed, push_whole};
 pub use whole::{is_whole, read_whole};
 pub use words::Words;

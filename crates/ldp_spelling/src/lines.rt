@@ -20,6 +20,7 @@ impl<'a> Lines<'a> {
     ghost use Rattle.std.specs.Prelude.{◌≡◌, [], ◌∷◌, ◌↔◌, IsTrue, None, Some, MatchOption};
     ghost use Rattle.ldp_spelling.specs.Pieces.{lines, ended};
 
+    /// All lines of a text.
     pub fn of_text(text: &'a [u8]) -> Self
         ensures { result ≡ lines text.now }
     {

@@ -1,9 +1,10 @@
 ghost use Rattle.std.specs.Prelude.{◌≡◌, ℕ, ◌≤◌, Some, decimal, bytes_eq, IfSome};
-ghost use Rattle.ldp_spelling.specs.Numbers.{whole_in, IsWhole, limit};
+ghost use Rattle.ldp_num.specs.Number.{limit};
+ghost use Rattle.ldp_spelling.specs.Numbers.{whole_in, IsWhole};
 
-use crate::decimal::LIMIT;
 use itoa::Buffer;
 use ldp_decimal::read_decimal;
+use ldp_num::LIMIT;
 
 /// Whether the text is the decimal digits of a number, with no leading zero.
 pub fn is_whole(text: &[u8], number: u64) -> bool

@@ -22,6 +22,7 @@ impl<'a> Words<'a> {
     ghost use Rattle.std.specs.Prelude.{◌≡◌, [], ◌∷◌, ◌↔◌, IsTrue, MatchOption};
     ghost use Rattle.ldp_spelling.specs.Pieces.{words};
 
+    /// All words of a line.
     pub fn of_line(line: &'a [u8]) -> Self
         ensures { result ≡ words line.now }
     {

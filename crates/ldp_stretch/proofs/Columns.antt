@@ -12,7 +12,7 @@ use Rattle.std.specs.Prelude.{Option, None, Some, slice_get, IfSome}
 use Rattle.ldp_range.specs.Range.{LiesIn, twice, pair_hull}
 use Rattle.ldp_range.proofs.Ends.{hull-holds}
 use Rattle.ldp_distortion.specs.Rows.{AreRows, IsRow}
-use Rattle.ldp_sweep.specs.declared.node.Node.{Node}
+use Rattle.ldp_sweep.specs.declared.stretch.Stretch.{Stretch}
 use Rattle.ldp_distortion.specs.Prepared.{PreparedCells}
 use Rattle.ldp_sweep.specs.Cut.{IsCut}
 use Rattle.ldp_stretch.specs.declared.stretches.Stretches.{Stretches}
@@ -62,7 +62,7 @@ column_more rows from place cell number old new known is whole k low high =
         })
 
 -- one more range of a hull
-pub hull_more : (rows : Rows) (node : Node) (old new : List (ℤ × ℤ)) (begin place : ℕ)
+pub hull_more : (rows : Rows) (node : Stretch) (old new : List (ℤ × ℤ)) (begin place : ℕ)
     (range : ℤ × ℤ) → new ≡ old ++ range ∷ [] → length old ≡ begin + place
     → ((k : ℕ) (r : ℤ × ℤ) → k < place → slice_get old (begin + k) ≡ Some r
     → HoldsColumn rows node.from node.to k r)
@@ -98,7 +98,7 @@ longer_more a b c range longer pushed assoc = record {
 }
 
 -- a hull stays one where more ranges come behind
-hull_longer : (rows : Rows) (width : ℕ) (node : Node) (begin : ℕ) (old new : List (ℤ × ℤ))
+hull_longer : (rows : Rows) (width : ℕ) (node : Stretch) (begin : ℕ) (old new : List (ℤ × ℤ))
     → IsLonger old new → IsHull rows width old node begin → IsHull rows width new node begin
 hull_longer rows width node begin old new longer hull =
     record {
@@ -110,14 +110,14 @@ hull_longer rows width node begin old new longer hull =
     }
 
 -- what is known of the hulls of the first nodes
-abbrev pub AreEach : Rows → ℕ → List Node → List (Option ℕ) → List (ℤ × ℤ) → Type 0
+abbrev pub AreEach : Rows → ℕ → List Stretch → List (Option ℕ) → List (ℤ × ℤ) → Type 0
 AreEach rows width nodes begins ranges =
-    (at : ℕ) (node : Node) (begin : ℕ) → slice_get nodes at ≡ Some node
+    (at : ℕ) (node : Stretch) (begin : ℕ) → slice_get nodes at ≡ Some node
     → slice_get begins at ≡ Some (Some begin) → IsHull rows width ranges node begin
 
 -- one more node
-pub hulls_more : (rows : Rows) (width : ℕ) (nodes : List Node) (old new : List (Option ℕ))
-    (ranges longer : List (ℤ × ℤ)) (at : ℕ) (node : Node) (found : Option ℕ)
+pub hulls_more : (rows : Rows) (width : ℕ) (nodes : List Stretch) (old new : List (Option ℕ))
+    (ranges longer : List (ℤ × ℤ)) (at : ℕ) (node : Stretch) (found : Option ℕ)
     → length old ≡ at → new ≡ old ++ found ∷ [] → slice_get nodes at ≡ Some node
     → IsLonger ranges longer → IfSome found (IsHull rows width longer node)
     → AreEach rows width nodes old ranges → AreEach rows width nodes new longer
@@ -146,10 +146,10 @@ hulls_more rows width nodes old new ranges longer at node found count pushed her
         let is : found ≡ Some begin = same_Some found (Some begin)
         (sym (get_last old found) ∙ ap (slice_get (old ++ found ∷ [])) last ∙ whole) in
         let its : node ≡ other = same_Some node other (sym here ∙ ap (slice_get nodes) same ∙ e) in
-        subst (λ (n : Node). IsHull rows width longer n begin) its
+        subst (λ (n : Stretch). IsHull rows width longer n begin) its
         (subst (λ (o : Option ℕ). IfSome o (IsHull rows width longer node)) is hull)
 
-pub hulls_none : (rows : Rows) (width : ℕ) (nodes : List Node) (begins : List (Option ℕ))
+pub hulls_none : (rows : Rows) (width : ℕ) (nodes : List Stretch) (begins : List (Option ℕ))
     (ranges : List (ℤ × ℤ)) → begins ≡ [] → AreEach rows width nodes begins ranges
 hulls_none rows width nodes begins ranges none at node begin e f =
     let no : ◌≡◌ {A = Option (Option ℕ)} None (Some (Some begin)) =
@@ -170,7 +170,7 @@ same_row rows cell row other e f =
     same_Some row other (same_Some (Some row) (Some other) (sym e ∙ f))
 
 -- the hull of a node as a list
-pub hull_holds : (rows : Rows) (width : ℕ) (ranges hull : List (ℤ × ℤ)) (node : Node) (begin : ℕ)
+pub hull_holds : (rows : Rows) (width : ℕ) (ranges hull : List (ℤ × ℤ)) (node : Stretch) (begin : ℕ)
     → AreRows width rows → IsHull rows width ranges node begin
     → hull ≡ take width (drop begin ranges) → HoldsRows rows node hull
 hull_holds rows width ranges hull node begin full is part cell low high =
@@ -223,17 +223,17 @@ pub hull_at : (p : PreparedCells) (s : Stretches) (at : ℕ) (found : Option ℕ
     → IsHull p.results (width_of p) s.ranges.items
     (get_or s.nodes.items at (record { from = 0; to = 0; skip = 0 })) begin
 hull_at p s at found begin hulls within read is =
-    let none : Node = record { from = 0; to = 0; skip = 0 } in
+    let none : Stretch = record { from = 0; to = 0; skip = 0 } in
     hulls.each at (get_or s.nodes.items at none) begin
     (slice_get-get_or s.nodes.items at none within)
     (slice_get_read s.begins.items (length s.nodes.items) at found (sym hulls.count) within read
     ∙ ap Some is)
 
 -- a node of a cut ends among the cells
-pub node_inside : (cells count : ℕ) (nodes items : List Node) (at : ℕ) (node : Node)
+pub node_inside : (cells count : ℕ) (nodes items : List Stretch) (at : ℕ) (node : Stretch)
     → IsCut cells nodes → items ≡ nodes → at < length items → count ≡ cells
     → (get_or items at node).to ≤ count
 node_inside cells count nodes items at node cut same within all =
     let found : slice_get nodes at ≡ Some (get_or items at node) =
-    ap (λ (xs : List Node). slice_get xs at) (sym same) ∙ slice_get-get_or items at node within in
+    ap (λ (xs : List Stretch). slice_get xs at) (sym same) ∙ slice_get-get_or items at node within in
     omega (arith, (cut.each at (get_or items at node) found).inside, all)

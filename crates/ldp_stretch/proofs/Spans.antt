@@ -15,8 +15,8 @@ use Rattle.ldp_range.proofs.Bounds.{most, fewest, numbers}
 use Rattle.ldp_range.proofs.Ends.{least-natural}
 use Rattle.ldp_distortion.specs.Distortion.{joined_in}
 use Rattle.ldp_distortion.specs.Prepared.{PreparedCells, joined_at}
-use Rattle.ldp_sweep.specs.declared.node.Node.{Node}
-use Rattle.ldp_sweep.specs.declared.span.Span.{Span}
+use Rattle.ldp_sweep.specs.declared.stretch.Stretch.{Stretch}
+use Rattle.ldp_sweep.specs.declared.enclosure.Enclosure.{Enclosure}
 use Rattle.ldp_stretch.specs.Hulls.{HoldsRows}
 use Rattle.ldp_stretch.specs.Spans.{IsSpanned, SpansNode}
 use Rattle.ldp_stretch.specs.Twins.{hull_twins}
@@ -57,7 +57,7 @@ between-high : (least end : ℤ) (high : ℕ) → least ≤ℤ end → pos 0 ≤
 between-high least end high h k e = omega (arith, ints)
 
 -- the span of a twin
-twin_spans : (range : ℤ × ℤ) (t : TwinPair) (found : Option (ℤ × ℤ)) (span : Span)
+twin_spans : (range : ℤ × ℤ) (t : TwinPair) (found : Option (ℤ × ℤ)) (span : Enclosure)
     → IsHeld range t → found ≡ Some range → span.low ≡ unsigned_abs (twin_fewest t)
     → span.high ≡ unsigned_abs (twin_most t) → IsSpanned found span
 twin_spans range t found span held is low high = record {
@@ -69,8 +69,8 @@ twin_spans range t found span held is low high = record {
       (least-natural range) high;
 }
 
-pub node_spanned : (p : PreparedCells) (twins : List TwinPair) (hull : List (ℤ × ℤ)) (node : Node)
-    (t : TwinPair) (span : Span) → HoldsRows p.results node hull
+pub node_spanned : (p : PreparedCells) (twins : List TwinPair) (hull : List (ℤ × ℤ)) (node : Stretch)
+    (t : TwinPair) (span : Enclosure) → HoldsRows p.results node hull
     → Some t ≡ first_result (value_in twin_ops p.lists.joint (twins ++ hull_twins hull))
     → span.low ≡ unsigned_abs (twin_fewest t) → span.high ≡ unsigned_abs (twin_most t)
     → SpansNode p twins node span

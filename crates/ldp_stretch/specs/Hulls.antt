@@ -4,7 +4,7 @@ use Rattle.std.specs.Prelude.{◌≡◌, ◌≤◌, ◌<◌, ◌+◌, ◌++◌, 
 use Rattle.ldp_range.specs.Range.{LiesIn}
 use Rattle.ldp_range.specs.Related.{Pairwise}
 use Rattle.ldp_distortion.specs.Prepared.{PreparedCells}
-use Rattle.ldp_sweep.specs.declared.node.Node.{Node}
+use Rattle.ldp_sweep.specs.declared.stretch.Stretch.{Stretch}
 use Rattle.ldp_sweep.specs.Cut.{IsCut}
 use Rattle.ldp_stretch.specs.declared.stretches.Stretches.{Stretches}
 
@@ -34,7 +34,7 @@ HoldsColumn rows from to place range =
     (cell : ℕ) → from ≤ cell → cell < to → LiesAt rows cell place range
 
 -- so many ranges from a place on hold the results at each cell of a node, one each
-pub record IsHull (rows : Rows) (width : ℕ) (ranges : List (ℤ × ℤ)) (node : Node) (begin : ℕ)
+pub record IsHull (rows : Rows) (width : ℕ) (ranges : List (ℤ × ℤ)) (node : Stretch) (begin : ℕ)
     : Type 0 where
   pub some : 0 < width
   pub within : begin + width ≤ length ranges
@@ -43,10 +43,10 @@ pub record IsHull (rows : Rows) (width : ℕ) (ranges : List (ℤ × ℤ)) (node
       → HoldsColumn rows node.from node.to place range
 
 -- each node has a hull that begins at its place, or none is known
-pub record AreHulls (rows : Rows) (width : ℕ) (nodes : List Node) (begins : List (Option ℕ))
+pub record AreHulls (rows : Rows) (width : ℕ) (nodes : List Stretch) (begins : List (Option ℕ))
     (ranges : List (ℤ × ℤ)) : Type 0 where
   pub count : length begins ≡ length nodes
-  pub each : (at : ℕ) (node : Node) (begin : ℕ) → slice_get nodes at ≡ Some node
+  pub each : (at : ℕ) (node : Stretch) (begin : ℕ) → slice_get nodes at ≡ Some node
       → slice_get begins at ≡ Some (Some begin) → IsHull rows width ranges node begin
 
 -- the results at a cell are defined, and each lies in its range
@@ -56,7 +56,7 @@ pub record RowLiesIn (rows : Rows) (cell : ℕ) (hull : List (ℤ × ℤ)) : Typ
   pub lies : Pairwise LiesIn row hull
 
 -- the results at each cell of a node are defined and lie in the hull
-abbrev pub HoldsRows : Rows → Node → List (ℤ × ℤ) → Type 0
+abbrev pub HoldsRows : Rows → Stretch → List (ℤ × ℤ) → Type 0
 HoldsRows rows node hull =
     (cell : ℕ) → node.from ≤ cell → cell < node.to → RowLiesIn rows cell hull
 

@@ -5,13 +5,13 @@ use crate::Memory;
 use crate::column::column;
 use ldp_distortion::Prepared;
 use ldp_range::Range;
-use ldp_sweep::Node;
+use ldp_sweep::Stretch;
 
 /// Adds the hull of a node, and answers where it begins. None: the results of the cell list are
 /// undefined at one of its cells, or it has no cell.
 pub(crate) fn push_hull(
     prepared: &Prepared,
-    node: Node,
+    node: Stretch,
     ranges: &mut Vec<Range>,
 ) -> Result<Option<usize>, Memory>
     requires { node.to ≤ length prepared.now.results }

@@ -12,7 +12,7 @@ use crate::twins::put_hull;
 use ldp_distortion::Prepared;
 use ldp_num::Bench;
 use ldp_range::{Range, Twin};
-use ldp_sweep::Span;
+use ldp_sweep::Enclosure;
 
 /// Bounds of the least absolute distortion at each cell of the node at a place, in units of 10^-15,
 /// where the first of the inputs are twins of the results of the design list; these stay. None:
@@ -23,7 +23,7 @@ pub(crate) fn span_at(
     bench: &mut Bench<Twin>,
     inputs: &mut [Twin],
     at: usize,
-) -> Option<Span>
+) -> Option<Enclosure>
     requires stretches { AreStretches prepared.now stretches.now }
     requires room { HasRoom prepared.now.lists bench.old.room }
     requires inputs { prepared.now.lists.joint.inputs ≤ length inputs.old }
@@ -36,7 +36,7 @@ pub(crate) fn span_at(
 {
     let hull = stretches.hull(prepared, at)?;
     let twin = twin_over(prepared, hull, bench, inputs)?;
-    Some(Span {
+    Some(Enclosure {
         low: twin.fewest().unsigned_abs(),
         high: twin.most().unsigned_abs(),
     })

@@ -4,13 +4,13 @@ use crate::Memory;
 use crate::hull::push_hull;
 use ldp_distortion::Prepared;
 use ldp_range::Range;
-use ldp_sweep::{Node, nodes_of};
+use ldp_sweep::{Stretch, nodes_of};
 use std::alloc::Global;
 
 /// Cells that are cut into stretches, with the hulls of the results of the cell list over them.
 #[derive(Drop)]
 pub struct Stretches {
-    nodes: Vec<Node>,
+    nodes: Vec<Stretch>,
     /// Where the hull of each node begins, if it has one.
     begins: Vec<Option<usize>>,
     /// The hulls, one after another.
@@ -41,7 +41,7 @@ impl Stretches {
     }
 
     /// The stretches, each after its parts.
-    pub fn nodes(&self) -> &[Node]
+    pub fn nodes(&self) -> &[Stretch]
         ensures { result.now ≡ self.now.nodes.items }
     {
         &self.nodes
@@ -52,7 +52,7 @@ impl Stretches {
         requires stretches { AreStretches prepared.now self.now }
         requires at { at < length self.now.nodes.items }
         ensures width { IfSome result (λ hull. length hull.now ≡ width_of prepared.now) }
-        ensures holds { IfSome result (λ hull. (node : Node)
+        ensures holds { IfSome result (λ hull. (node : Stretch)
             → slice_get self.now.nodes.items at ≡ Some node
             → HoldsRows prepared.now.results node hull.now) }
     {

@@ -9,13 +9,10 @@ use crate::stretched::Stretched;
 use crate::stretches::Stretches;
 use crate::twins::{put_numbers, put_ranges};
 use ldp_distortion::Prepared;
-use ldp_num::{Bench, Fix, Num};
+use ldp_num::{Bench, Fix, MOST_INPUTS, Num};
 use ldp_range::{Range, Twin};
-use ldp_sweep::{Node, Span};
+use ldp_sweep::{Enclosure, Stretch};
 use std::marker::Model;
-
-/// The most inputs of a list.
-const MOST_INPUTS: usize = 16;
 
 /// The spans of the least absolute distortion of one box or one design over stretches of cells,
 /// seen as the prepared cells, the stretches, and twins of the results of the design list.
@@ -84,7 +81,7 @@ impl<'a> TwinSpans<'a> {
         ensures twins { result.twins ≡ take (length stretched.now.lists.design.outs) inputs }
     {
         let prepared = stretched.prepared();
-        // Called for its clause: no list has more than 16 inputs.
+        // Called for its clause: no list has more inputs.
         let _inputs = prepared.lists().joint.inputs();
         TwinSpans {
             prepared,
@@ -102,7 +99,7 @@ impl<'a> TwinSpans<'a> {
     }
 
     /// The stretches into which they are cut, each after its parts.
-    pub fn nodes(&self) -> &[Node]
+    pub fn nodes(&self) -> &[Stretch]
         ensures { result.now ≡ self.now.nodes }
     {
         self.stretches.nodes()
@@ -112,7 +109,7 @@ impl<'a> TwinSpans<'a> {
     /// 10^-15. None: it is not known that the distortion is defined at each. How near the bounds
     /// are, and where they are known, is told by no clause: whoever asks has the same answer with
     /// any.
-    pub fn span(&mut self, at: usize) -> Option<Span>
+    pub fn span(&mut self, at: usize) -> Option<Enclosure>
         requires { at < length self.old.nodes }
         ensures spans { IfSome result (SpansAt self.old.cells self.old.twins self.old.nodes at) }
         ensures same { self.new ≡ self.old }

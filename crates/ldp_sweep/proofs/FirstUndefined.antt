@@ -10,7 +10,7 @@ use Rattle.ldp_problem.specs.Costs.{at_cells}
 use Rattle.ldp_sweep.specs.Cut.{Cut}
 use Rattle.ldp_sweep.specs.Tally.{undefined_of}
 use Rattle.ldp_sweep.specs.Peaks.{IsFirstUndefined}
-use Rattle.ldp_sweep.proofs.Values.{length-at_cells, cell_at}
+use Rattle.ldp_problem.proofs.Cells.{length-at_cells, cell_at}
 
 not_none : (o : Option ℕ) → IsSome o → is_none o ≡ false
 not_none None h = absurd (search rules)

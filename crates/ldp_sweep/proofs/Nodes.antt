@@ -6,17 +6,17 @@ use Rattle.std.proofs.lemmas.Bool.{cases_lt}
 use Rattle.std.proofs.lemmas.List.{length-append}
 use Rattle.std.proofs.lemmas.Option.{slice_get_within, same_Some}
 use Rattle.std.specs.Prelude.{Some}
-use Rattle.ldp_sweep.specs.declared.node.Node.{Node}
+use Rattle.ldp_sweep.specs.declared.stretch.Stretch.{Stretch}
 use Rattle.ldp_sweep.specs.Cut.{first_cell, start, IsNode, AreNodes, IsCut}
 use Rattle.ldp_sweep.specs.Grown.{IsGrown, IsGrownFrom}
 
 -- the nodes up to a place cover the cells from the first one of the node there on
-pub start_is : (cells : ℕ) (nodes : List Node) (at : ℕ) (node : Node)
+pub start_is : (cells : ℕ) (nodes : List Stretch) (at : ℕ) (node : Stretch)
     → slice_get nodes at ≡ Some node → start cells nodes (suc at) ≡ node.from
 start_is cells nodes at node found = ap (first_cell cells) found
 
 -- so many nodes, with the last of them at a place
-pub start_above : (cells : ℕ) (nodes : List Node) (height : ℕ) (node : Node) → 0 < height
+pub start_above : (cells : ℕ) (nodes : List Stretch) (height : ℕ) (node : Stretch) → 0 < height
     → slice_get nodes (height - 1) ≡ Some node → start cells nodes height ≡ node.from
 start_above cells nodes zero node h found = absurd (omega arith)
 start_above cells nodes (suc at) node h found =
@@ -24,24 +24,24 @@ start_above cells nodes (suc at) node h found =
     start_is cells nodes at node (ap (slice_get nodes) (sym back) ∙ found)
 
 -- more nodes behind change nothing in front
-get_front : (nodes more : List Node) (at : ℕ) → at < length nodes
+get_front : (nodes more : List Stretch) (at : ℕ) → at < length nodes
     → slice_get (nodes ++ more) at ≡ slice_get nodes at
 get_front [] more at h = absurd (omega arith)
 get_front (node ∷ nodes) more zero h = refl
 get_front (node ∷ nodes) more (suc at) h = get_front nodes more at (omega arith)
 
-pub get_last : (nodes : List Node) (node : Node)
+pub get_last : (nodes : List Stretch) (node : Stretch)
     → slice_get (nodes ++ node ∷ []) (length nodes) ≡ Some node
 get_last [] node = refl
 get_last (first ∷ nodes) node = get_last nodes node
 
-start_front : (cells : ℕ) (nodes more : List Node) (count : ℕ) → count ≤ length nodes
+start_front : (cells : ℕ) (nodes more : List Stretch) (count : ℕ) → count ≤ length nodes
     → start cells (nodes ++ more) count ≡ start cells nodes count
 start_front cells nodes more zero h = refl
 start_front cells nodes more (suc count) h =
     ap (first_cell cells) (get_front nodes more count (omega arith))
 
-node_front : (cells : ℕ) (nodes more : List Node) (at : ℕ) (node : Node) → at < length nodes
+node_front : (cells : ℕ) (nodes more : List Stretch) (at : ℕ) (node : Stretch) → at < length nodes
     → IsNode cells nodes at node → IsNode cells (nodes ++ more) at node
 node_front cells nodes more at node h known =
     record {
@@ -54,7 +54,7 @@ node_front cells nodes more at node h known =
     }
 
 -- the places of a list with one more node
-nodes_push : (cells : ℕ) (nodes : List Node) (last : Node)
+nodes_push : (cells : ℕ) (nodes : List Stretch) (last : Stretch)
     → AreNodes cells nodes → IsNode cells nodes (length nodes) last
     → AreNodes cells (nodes ++ last ∷ [])
 nodes_push cells nodes last known new at node found = by_place (cases_lt at (length nodes))
@@ -89,7 +89,7 @@ nodes_push cells nodes last known new at node found = by_place (cases_lt at (len
         (subst (IsNode cells (nodes ++ last ∷ []) (length nodes)) same moved)
 
 -- nothing was added
-pub grown_none : (nodes : List Node) (to : ℕ) → IsGrownFrom nodes nodes to to
+pub grown_none : (nodes : List Stretch) (to : ℕ) → IsGrownFrom nodes nodes to to
 grown_none nodes to cells inside covers =
     record { more = []; is = sym append_nil; nodes = λ known. known; covers = covers }
   where
@@ -97,7 +97,7 @@ grown_none nodes to cells inside covers =
     append_nil = search rules
 
 -- one part after the others
-pub grown_both : (a b c : List Node) (from begin to : ℕ) → begin ≤ to
+pub grown_both : (a b c : List Stretch) (from begin to : ℕ) → begin ≤ to
     → IsGrownFrom a b begin to → IsGrownFrom b c from begin → IsGrownFrom a c from to
 grown_both a b c from begin to h first then cells inside covers =
     let one = first cells inside covers in
@@ -110,7 +110,7 @@ grown_both a b c from begin to h first then cells inside covers =
     }
 
 -- the node after its parts, where there are some
-pub grown_node : (old nodes : List Node) (node : Node) (end : ℕ)
+pub grown_node : (old nodes : List Stretch) (node : Stretch) (end : ℕ)
     → IsGrownFrom old nodes end node.to → node.skip ≡ length old → node.from ≤ node.to
     → (length old < length nodes → end ≡ node.from)
     → IsGrownFrom old (nodes ++ node ∷ []) node.from node.to
@@ -143,7 +143,7 @@ grown_node old nodes node end parts skip ordered covered cells inside covers =
         ∙ start_is cells (nodes ++ node ∷ []) (length nodes) node (get_last nodes node)
 
 -- what is added to no node
-pub cut_of : (cells : ℕ) (nodes : List Node) → 0 < cells → IsGrownFrom [] nodes 0 cells
+pub cut_of : (cells : ℕ) (nodes : List Stretch) → 0 < cells → IsGrownFrom [] nodes 0 cells
     → IsCut cells nodes
 cut_of cells nodes some grown =
     let all = grown cells (omega arith) refl in

@@ -4,9 +4,9 @@ use Rattle.std.proofs.Common.{arith, rules, sym, ap, subst, ◌∙◌, ◌⊎◌
 use Rattle.std.proofs.lemmas.Bool.{cases_lt}
 use Rattle.std.specs.Prelude.{Option, None, Some, IsSome, unwrap_or}
 use Rattle.ldp_problem.specs.Costs.{beyond}
-use Rattle.ldp_sweep.specs.declared.node.Node.{Node}
+use Rattle.ldp_sweep.specs.declared.stretch.Stretch.{Stretch}
 use Rattle.ldp_sweep.specs.declared.peak.Peak.{Peak}
-use Rattle.ldp_sweep.specs.declared.span.Span.{Span}
+use Rattle.ldp_sweep.specs.declared.enclosure.Enclosure.{Enclosure}
 use Rattle.ldp_sweep.specs.declared.tally.Tally.{Tally}
 use Rattle.ldp_sweep.specs.Cut.{Cut, IsWithin}
 use Rattle.ldp_sweep.specs.Tally.{number_at, over_of, peak_of}
@@ -95,7 +95,7 @@ tally_more cut tolerance cell old new peak known at_cell place counts one left r
         }
 
 -- after a node that is passed over
-pub tally_passed : (cut : Cut) (tolerance : Option ℕ) (node : Node) (old new : Tally) (more : ℕ)
+pub tally_passed : (cut : Cut) (tolerance : Option ℕ) (node : Stretch) (old new : Tally) (more : ℕ)
     → IsTally cut tolerance node.from old
     → IsPassed cut.value tolerance node old.peak more
     → new.over ≡ old.over + more → new.peak ≡ old.peak
@@ -131,7 +131,7 @@ tally_peak cut tolerance cells tally known all =
     (λ cell h. known.most cell (omega arith) (omega arith))
 
 -- a span shows that none of its cells is above the tolerance, or that all are
-pub none_above : (value : ℕ → Option ℕ) (tolerance from to : ℕ) (span : Span)
+pub none_above : (value : ℕ → Option ℕ) (tolerance from to : ℕ) (span : Enclosure)
     → IsWithin value from to span → from ≤ to → span.high ≤ tolerance
     → over_of value (Some tolerance) to ≡ over_of value (Some tolerance) from + 0
 none_above value tolerance from to span within ordered below =
@@ -140,7 +140,7 @@ none_above value tolerance from to span within ordered below =
     (omega (arith, within.high cell low high)))
     ∙ omega arith
 
-pub all_above : (value : ℕ → Option ℕ) (tolerance from to cells : ℕ) (span : Span)
+pub all_above : (value : ℕ → Option ℕ) (tolerance from to cells : ℕ) (span : Enclosure)
     → IsWithin value from to span → from + cells ≡ to → tolerance < span.low
     → over_of value (Some tolerance) to ≡ over_of value (Some tolerance) from + cells
 all_above value tolerance from to cells span within ordered above =

@@ -1,14 +1,15 @@
 -- Values at cells: how many are above a tolerance, their greatest, and the first cell that has it.
-use Rattle.std.proofs.Common.{◌≡◌, ◌≤◌, ◌<◌, ◌+◌, ◌-◌, ℕ, zero, suc, max, true, false, cond}
-use Rattle.std.proofs.Common.{List, [], ◌∷◌, ◌++◌}
+use Rattle.std.proofs.Common.{◌≡◌, ◌≤◌, ◌<◌, ◌+◌, ◌-◌, ℕ, zero, suc, true, false}
+use Rattle.std.proofs.Common.{[], ◌∷◌}
 use Rattle.std.proofs.Common.{length, get_or, arith, refl, sym, ap, ◌∙◌, ◌⊎◌, inl, inr}
 use Rattle.std.proofs.lemmas.Bool.{cases_lt}
 use Rattle.std.proofs.lemmas.Bool.Decides.{nat_tests}
-use Rattle.std.proofs.lemmas.List.{length-append, get_or_push, get_or_append_left}
-use Rattle.std.proofs.lemmas.List.Sums.{sum_by-append, sum_by-cons, position_or_len_is}
+use Rattle.std.proofs.lemmas.List.Sums.{position_or_len_is}
 use Rattle.std.specs.Prelude.{Option, None, Some, nat_lt, ◌==◌}
 use Rattle.std.specs.List.{position_or_len}
 use Rattle.ldp_problem.specs.Costs.{at_cells, largest, first_largest, beyond}
+use Rattle.ldp_problem.proofs.Cells.{length-at_cells, cell_at, largest_push, at_most_largest}
+use Rattle.ldp_problem.proofs.Cells.{beyond_grows, beyond_of_one}
 use Rattle.ldp_sweep.specs.declared.peak.Peak.{Peak}
 use Rattle.ldp_sweep.specs.Peaks.{IsAtMost}
 
@@ -23,9 +24,7 @@ NoneHigher f n peak =
 -- one more cell
 pub over_more : (f : ℕ → ℕ) (tolerance : Option ℕ) (n : ℕ)
     → count f tolerance (suc n) ≡ count f tolerance n + beyond tolerance (f n ∷ [])
-over_more f None n = omega arith
-over_more f (Some tolerance) n =
-    sum_by-append (λ v. cond (nat_lt tolerance v) 1 0) (at_cells f n) (f n ∷ [])
+over_more f tolerance n = beyond_grows tolerance (at_cells f n) (f n)
 
 pub over_zero : (f : ℕ → ℕ) (tolerance : Option ℕ) → count f tolerance 0 ≡ 0
 over_zero f None = refl
@@ -35,13 +34,13 @@ pub one_below : (tolerance value : ℕ) → value ≤ tolerance
     → beyond (Some tolerance) (value ∷ []) ≡ 0
 one_below tolerance value h =
     let test : nat_lt tolerance value ≡ false = grind (arith, nat_tests) in
-    sum_by-cons (λ v. cond (nat_lt tolerance v) 1 0) value [] ∙ rw test refl
+    beyond_of_one tolerance value ∙ rw test refl
 
 pub one_above : (tolerance value : ℕ) → tolerance < value
     → beyond (Some tolerance) (value ∷ []) ≡ 1
 one_above tolerance value h =
     let test : nat_lt tolerance value ≡ true = grind (arith, nat_tests) in
-    sum_by-cons (λ v. cond (nat_lt tolerance v) 1 0) value [] ∙ rw test refl
+    beyond_of_one tolerance value ∙ rw test refl
 
 pub at_most_one : (tolerance : Option ℕ) (value : ℕ) → beyond tolerance (value ∷ []) ≤ 1
 at_most_one None value = omega arith
@@ -110,10 +109,6 @@ over_all f tolerance from (suc to) h all =
         let same : from ≡ suc to = omega arith in
         ap (count f tolerance) (sym same) ∙ omega arith
 
-largest_push : (xs : List ℕ) (x : ℕ) → largest (xs ++ x ∷ []) ≡ max (largest xs) x
-largest_push [] x = omega arith
-largest_push (y ∷ xs) x = rw (largest_push xs x) (omega arith)
-
 largest_at_most : (f : ℕ → ℕ) (n most : ℕ) → ((cell : ℕ) → cell < n → f cell ≤ most)
     → largest (at_cells f n) ≤ most
 largest_at_most f zero most below = omega arith
@@ -124,38 +119,6 @@ largest_at_most f (suc n) most below =
       below n (omega arith),
       largest_at_most f n most (λ cell h. below cell (omega arith)),
     )
-
-at_most_largest : (f : ℕ → ℕ) (n cell : ℕ) → cell < n → f cell ≤ largest (at_cells f n)
-at_most_largest f zero cell h = absurd (omega arith)
-at_most_largest f (suc n) cell h = by_place (cases_lt cell n) (at_most_largest f n cell)
-  where
-    by_place : (cell < n) ⊎ (n ≤ cell) → (cell < n → f cell ≤ largest (at_cells f n))
-        → f cell ≤ largest (at_cells f (suc n))
-    by_place (inl below) earlier =
-        omega (arith, largest_push (at_cells f n) (f n), earlier below)
-    by_place (inr above) earlier =
-        let last : cell ≡ n = omega arith in
-        rw last (omega (arith, largest_push (at_cells f n) (f n)))
-
-pub length-at_cells : {A : Type 0} (f : ℕ → A) (n : ℕ) → length (at_cells f n) ≡ n
-length-at_cells f zero = refl
-length-at_cells f (suc n) =
-    length-append (at_cells f n) (f n ∷ []) ∙ omega (arith, length-at_cells f n)
-
--- the value at a cell stands at its place
-pub cell_at : {A : Type 0} (f : ℕ → A) (n cell : ℕ) (d : A) → cell < n
-    → get_or (at_cells f n) cell d ≡ f cell
-cell_at f zero cell d h = absurd (omega arith)
-cell_at f (suc n) cell d h = by_place (cases_lt cell n) (cell_at f n cell d)
-  where
-    by_place : (cell < n) ⊎ (n ≤ cell) → (cell < n → get_or (at_cells f n) cell d ≡ f cell)
-        → get_or (at_cells f n ++ f n ∷ []) cell d ≡ f cell
-    by_place (inl below) earlier =
-        get_or_append_left (at_cells f n) (f n ∷ []) d cell (omega (arith, length-at_cells f n))
-        ∙ earlier below
-    by_place (inr above) earlier =
-        let last : cell ≡ n = omega arith in
-        get_or_push (at_cells f n) (f n) d cell (length-at_cells f n ∙ sym last) ∙ ap f (sym last)
 
 lower_before : (value most cell first : ℕ) → value ≤ most → (value ≡ most → first ≤ cell)
     → cell < first → value < most

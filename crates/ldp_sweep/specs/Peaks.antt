@@ -3,7 +3,7 @@
 use Rattle.std.specs.Prelude.{◌≡◌, ◌<◌, ◌≤◌, ◌+◌, ℕ, Option, None, Some, IsSome}
 use Rattle.ldp_sweep.specs.declared.peak.Peak.{Peak}
 use Rattle.ldp_sweep.specs.declared.tally.Tally.{Tally}
-use Rattle.ldp_sweep.specs.declared.node.Node.{Node}
+use Rattle.ldp_sweep.specs.declared.stretch.Stretch.{Stretch}
 use Rattle.ldp_sweep.specs.Cut.{Cut}
 use Rattle.ldp_sweep.specs.Tally.{number_at, over_of}
 
@@ -34,7 +34,7 @@ pub record IsTally (cut : Cut) (tolerance : Option ℕ) (cells : ℕ) (tally : T
 
 -- the values at a node's cells are defined and no higher than the peak, and so many more are above
 -- the tolerance
-pub record IsPassed (value : ℕ → Option ℕ) (tolerance : Option ℕ) (node : Node) (peak : Peak)
+pub record IsPassed (value : ℕ → Option ℕ) (tolerance : Option ℕ) (node : Stretch) (peak : Peak)
     (more : ℕ) : Type 0 where
   pub defined : (cell : ℕ) → node.from ≤ cell → cell < node.to → IsSome (value cell)
   pub most : AreNoHigher value node.from node.to peak

@@ -4,19 +4,19 @@
 //! of its cells changes the answer.
 #![tactic(auto)]
 
+mod enclosure;
 mod hints;
-mod node;
 mod peak;
-mod span;
+mod stretch;
 mod sweep;
 mod tally;
 mod tree;
 mod undefined;
 
-pub use node::Node;
+pub use enclosure::Enclosure;
 pub use peak::Peak;
-pub use span::Span;
 pub use std::alloc::AllocError as Memory;
+pub use stretch::Stretch;
 pub use sweep::Sweep;
 pub use tally::{Tally, tally_of};
 pub use tree::nodes_of;

@@ -1,8 +1,8 @@
 ghost use Rattle.std.specs.Prelude.{◌≡◌, ◌<◌, ◌≤◌, length, IfSome};
 ghost use Rattle.ldp_sweep.specs.Cut.{Cut, IsSpan};
 
-use crate::node::Node;
-use crate::span::Span;
+use crate::enclosure::Enclosure;
+use crate::stretch::Stretch;
 
 /// Who knows the values at cells, numbered from 0, and the spans of stretches of them. No call
 /// changes the cut.
@@ -14,7 +14,7 @@ pub trait Sweep {
     fn cells(&self) -> u32
         ensures { result ≡ (cut self.now).cells };
 
-    fn nodes(&self) -> &[Node]
+    fn nodes(&self) -> &[Stretch]
         ensures { result.now ≡ (cut self.now).nodes };
 
     /// The value at a cell. None: it is undefined.
@@ -26,7 +26,7 @@ pub trait Sweep {
 
     /// Bounds of the values at the cells of the node at this place, all of them defined. None:
     /// that is not known.
-    fn span(&mut self, at: usize) -> Option<Span>
+    fn span(&mut self, at: usize) -> Option<Enclosure>
         requires { at < length (cut self.old).nodes }
         ensures within { IfSome result (IsSpan (cut self.old) at) }
         ensures same { cut self.new ≡ cut self.old };

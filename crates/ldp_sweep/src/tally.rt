@@ -5,10 +5,10 @@ ghost use Rattle.ldp_sweep.specs.Cut.{IsCut, IsWithin, start};
 ghost use Rattle.ldp_sweep.specs.Tally.{over_of, peak_of, undefined_of};
 ghost use Rattle.ldp_sweep.specs.Peaks.{IsTally, IsPassed, IsFirstUndefined};
 
+use crate::enclosure::Enclosure;
 use crate::hints::{hinted, peak_at};
-use crate::node::Node;
 use crate::peak::Peak;
-use crate::span::Span;
+use crate::stretch::Stretch;
 use crate::sweep::Sweep;
 use crate::undefined::Undefined;
 
@@ -84,7 +84,7 @@ fn descend<S: Sweep>(
     Ok(at)
 }
 
-fn node_at<S: Sweep>(sweep: &S, at: usize) -> Node
+fn node_at<S: Sweep>(sweep: &S, at: usize) -> Stretch
     requires { at < length (S.cut sweep.now).nodes }
     ensures { slice_get (S.cut sweep.now).nodes at ≡ Some result }
 {
@@ -93,7 +93,7 @@ fn node_at<S: Sweep>(sweep: &S, at: usize) -> Node
 
 /// How many cells of a stretch are above the tolerance, where that is known and none of them is
 /// higher than the peak.
-fn passed(span: Option<Span>, node: Node, tolerance: Option<u64>, peak: Peak) -> Option<u32>
+fn passed(span: Option<Enclosure>, node: Stretch, tolerance: Option<u64>, peak: Peak) -> Option<u32>
     requires { node.from ≤ node.to }
     ensures { (value : ℕ → Option ℕ) → IfSome span (IsWithin value node.from node.to)
         → IfSome result (IsPassed value tolerance node peak) }
@@ -108,7 +108,7 @@ fn passed(span: Option<Span>, node: Node, tolerance: Option<u64>, peak: Peak) ->
 /// Looks at each cell of a stretch.
 fn look_at<S: Sweep>(
     sweep: &mut S,
-    node: Node,
+    node: Stretch,
     tolerance: Option<u64>,
     tally: &mut Tally,
 ) -> Result<(), Undefined>

@@ -2,23 +2,15 @@
 use Rattle.std.proofs.Common.{◌≡◌, ℕ, zero, suc, ◌+◌, ◌<◌, List, [], ◌∷◌, ◌++◌, append_assoc}
 use Rattle.std.proofs.Common.{length, map, get_or, take, refl, sym, ap, ◌∙◌, arith, add-one}
 use Rattle.std.proofs.Common.{OnOk, Result, Ok, Err}
-use Rattle.std.proofs.lemmas.List.{map-append, take_more, flat_map_more}
+use Rattle.std.proofs.lemmas.List.{map-append, take_more}
 use Rattle.std.proofs.lemmas.Grind.{flat_map-append}
+use Rattle.ldp_spelling.specs.Texts.{Words, line_text, lines_text}
 use Rattle.ldp_table.specs.declared.row.Row.{Row}
-use Rattle.ldp_table.specs.Texts.{Words, row_words, band_words, over_words, bands_words, line_text}
-use Rattle.ldp_table.specs.Texts.{lines_text}
+use Rattle.ldp_table.specs.Texts.{row_words, band_words, over_words, bands_words}
 
 pub on_ok : {A E : Type 0} (r : Result A E) (P Q : Type 0) → (P → Q) → OnOk r P → OnOk r Q
 on_ok (Ok a) P Q f h = f h
 on_ok (Err e) P Q f h = h
-
--- one line more
-pub line_more : (t0 t1 t2 : List ℕ) (ls more : List Words) (l : Words)
-    → t1 ≡ t0 ++ lines_text ls → t2 ≡ t1 ++ line_text l → more ≡ ls ++ l ∷ []
-    → t2 ≡ t0 ++ lines_text more
-line_more t0 t1 t2 ls more l so_far pushed is =
-    pushed ∙ (ap (λ t. t ++ line_text l) so_far
-    ∙ (flat_map_more line_text t0 ls l ∙ ap (λ ws. t0 ++ lines_text ws) (sym is)))
 
 pub row_more : (rows : List Row) (i : ℕ) (d : Row) → i < length rows
     → map row_words (take (i + 1) rows) ≡ map row_words (take i rows) ++ row_words (get_or rows i d)

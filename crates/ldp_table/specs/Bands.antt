@@ -5,7 +5,8 @@ use Rattle.std.specs.Prelude.{count_by}
 use Rattle.std.specs.List.{position_or_len}
 use Rattle.ldp_table.specs.declared.row.Row.{Row}
 
--- the upper ends of the bands, in parts per million
+-- the upper ends of the bands, in parts per million; the next band begins above the end of the one
+-- before
 abbrev pub edges : List ℕ
 edges = 5 ∷ 10 ∷ 20 ∷ 50 ∷ 100 ∷ []
 
@@ -14,6 +15,7 @@ edges = 5 ∷ 10 ∷ 20 ∷ 50 ∷ 100 ∷ []
 abbrev pub band_of : ℤ → ℕ
 band_of z = position_or_len (λ edge. nat_le (unsigned_abs z) (edge * 10 ^ 9)) edges
 
+-- how many cells lie in the band with this number, from 0
 abbrev pub count_in : List Row → ℕ → ℕ
 count_in rows band = count_by (λ row. band_of row.distortion == band) rows
 

@@ -10,6 +10,7 @@ use Rattle.ldp_table.specs.declared.row.Row.{Row}
 use Rattle.ldp_table.specs.Bands.{counts_of}
 use Rattle.ldp_table.specs.Texts.{ppm_text}
 
+-- a count as a JSON number
 abbrev pub count_data : ℕ → Data
 count_data n = number (unsigned n)
 
@@ -28,6 +29,7 @@ abbrev pub worst_value : Worst → ℤ
 worst_value (Is value cell) = value
 worst_value (Unusable cell) = pos 0
 
+-- the object of a table, with its members in this order
 abbrev pub object_of : Data → Data → Data → Data → Data
 object_of bands cells missing worst =
     object (member (codes "bands") bands

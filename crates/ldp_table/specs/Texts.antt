@@ -1,14 +1,9 @@
 -- The table as a text: lines of words. (Own choice of this project.)
 use Rattle.std.specs.Prelude.{ℕ, ℤ, List, [], ◌∷◌, ◌++◌, length, map, codes, decimal}
-use Rattle.std.specs.List.{flat_map}
 use Rattle.ldp_decimal.specs.Writing.{decimal_text, trimmed_text}
-use Rattle.ldp_spelling.specs.Pieces.{line_of}
+use Rattle.ldp_spelling.specs.Texts.{Words, lines_text}
 use Rattle.ldp_table.specs.declared.row.Row.{Row}
 use Rattle.ldp_table.specs.Bands.{edges, counts_of}
-
--- the words of a line
-abbrev pub Words : Type 0
-Words = List (List ℕ)
 
 -- a distortion in parts per million, with nine decimals
 abbrev pub ppm_text : ℤ → List ℕ
@@ -20,13 +15,16 @@ row_words row =
     decimal row.cell.row ∷ decimal row.cell.col ∷ trimmed_text 12 row.cell.y
     ∷ trimmed_text 12 row.cell.x ∷ trimmed_text 3 row.cell.mm ∷ ppm_text row.distortion ∷ []
 
+-- the line of the number of cells, and of places without a height
 abbrev pub cells_words : ℕ → ℕ → Words
 cells_words cells missing =
     codes "cells" ∷ decimal cells ∷ codes "missing" ∷ decimal missing ∷ []
 
+-- the line of a band: its upper end in parts per million, and how many cells lie in it
 abbrev pub band_words : ℕ → ℕ → Words
 band_words edge count = codes "band" ∷ decimal edge ∷ decimal count ∷ []
 
+-- the line of the cells that lie in no band
 abbrev pub over_words : ℕ → Words
 over_words count = codes "over" ∷ decimal count ∷ []
 
@@ -37,17 +35,11 @@ bands_words [] (count ∷ counts) = over_words count ∷ []
 bands_words (edge ∷ ends) [] = []
 bands_words (edge ∷ ends) (count ∷ counts) = band_words edge count ∷ bands_words ends counts
 
+-- all lines of the table: a line for each cell, then the counts
 abbrev pub table_words : List Row → ℕ → List Words
 table_words rows missing =
     map row_words rows
     ++ cells_words (length rows) missing ∷ bands_words edges (counts_of rows)
-
--- a line with its line feed
-abbrev pub line_text : Words → List ℕ
-line_text words = line_of words ++ 10 ∷ []
-
-abbrev pub lines_text : List Words → List ℕ
-lines_text lines = flat_map line_text lines
 
 -- the table of these rows, beside which so many places have no height
 unfoldable pub table_text : List Row → ℕ → List ℕ

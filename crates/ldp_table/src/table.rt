@@ -1,60 +1,31 @@
-ghost use Rattle.std.specs.Prelude.{◌≡◌, ◌<◌, ◌≤◌, ◌≤ℤ◌, ◌++◌, ◌∷◌, negsuc, pos, length, map, All};
-ghost use Rattle.std.specs.Prelude.{decimal, IfOk, OnOk};
-ghost use Rattle.ldp_num.specs.Number.{IsNumber};
-ghost use Rattle.ldp_decimal.specs.Writing.{trimmed_text};
+ghost use Rattle.std.specs.Prelude.{◌≡◌, ◌<◌, ◌≤◌, ◌++◌, ◌∷◌, length, map, All, decimal, IfOk, OnOk};
+ghost use Rattle.ldp_spelling.specs.Texts.{line_text, lines_text};
 ghost use Rattle.ldp_distortion.specs.Distortion.{distortions};
 ghost use Rattle.ldp_distortion.specs.Inputs.{AreNumbers};
 ghost use Rattle.ldp_distortion.specs.Prepared.{HasRoom};
 ghost use Rattle.ldp_distortion.specs.Worst.{IsUsable};
 ghost use Rattle.ldp_table.specs.Rows.{rows_of, IsOver, IsRow};
 ghost use Rattle.ldp_table.specs.Bands.{edges, counts_of};
-ghost use Rattle.ldp_table.specs.Texts.{ppm_text, row_words, cells_words, band_words, over_words};
-ghost use Rattle.ldp_table.specs.Texts.{bands_words, line_text};
-ghost use Rattle.ldp_table.specs.Texts.{lines_text, table_text};
+ghost use Rattle.ldp_table.specs.Texts.{row_words, cells_words, band_words, over_words};
+ghost use Rattle.ldp_table.specs.Texts.{bands_words, table_text};
 
 use crate::band::{EDGES, counts_of};
 use crate::row::{Row, rows_of};
 use itoa::Buffer;
 use ldp_cells::Cells;
-use ldp_decimal::{Text, write_decimal, write_trimmed};
+use ldp_decimal::Text;
 use ldp_distortion::{Inputs, Prepared};
 use ldp_num::{Bench, Fix};
+use ldp_spelling::{push_fixed, push_trimmed, push_whole};
 use std::alloc::{AllocError as Memory, Global};
-
-fn push_number(text: &mut Text, number: u32) -> Result<(), Memory>
-    ensures { OnOk result (text.new ≡ text.old ++ decimal number) }
-{
-    let mut buffer = Buffer::new();
-    text.push(buffer.format(number).as_bytes())
-}
-
-/// A space and a trimmed number.
-fn push_trimmed(alloc: Global, text: &mut Text, value: i128, places: u32) -> Result<(), Memory>
-    requires places { places ≤ 15 }
-    requires low { negsuc 9999999999999999999 ≤ℤ value }
-    requires high { value ≤ℤ pos 10000000000000000000 }
-    ensures { OnOk result (text.new ≡ text.old ++ 32 ∷ trimmed_text places value) }
-{
-    text.push(b" ")?;
-    text.push(write_trimmed(alloc, value, places)?.bytes())
-}
 
 /// The row and the column of a cell.
 fn push_place(text: &mut Text, row: u32, col: u32) -> Result<(), Memory>
     ensures { OnOk result (text.new ≡ text.old ++ (decimal row ++ 32 ∷ decimal col)) }
 {
-    push_number(text, row)?;
-    text.push(b" ")?;
-    push_number(text, col)
-}
-
-/// A space and a distortion in parts per million.
-fn push_ppm(alloc: Global, text: &mut Text, distortion: i128) -> Result<(), Memory>
-    requires { IsNumber distortion }
-    ensures { OnOk result (text.new ≡ text.old ++ 32 ∷ ppm_text distortion) }
-{
-    text.push(b" ")?;
-    text.push(write_decimal(alloc, distortion, 9)?.bytes())
+    let mut buffer = Buffer::new();
+    text.push(buffer.format(row).as_bytes())?;
+    push_whole(text, u64::from(col))
 }
 
 fn push_row(alloc: Global, text: &mut Text, row: &Row) -> Result<(), Memory>
@@ -65,7 +36,7 @@ fn push_row(alloc: Global, text: &mut Text, row: &Row) -> Result<(), Memory>
     push_trimmed(alloc, text, row.cell.y, 12)?;
     push_trimmed(alloc, text, row.cell.x, 12)?;
     push_trimmed(alloc, text, i128::from(row.cell.mm), 3)?;
-    push_ppm(alloc, text, row.distortion)?;
+    push_fixed(alloc, text, row.distortion, 9)?;
     text.push(b"\n")
 }
 
@@ -82,28 +53,27 @@ fn push_rows(alloc: Global, text: &mut Text, rows: &[Row]) -> Result<(), Memory>
 fn push_cells(text: &mut Text, cells: u32, missing: u32) -> Result<(), Memory>
     ensures { OnOk result (text.new ≡ text.old ++ line_text (cells_words cells missing)) }
 {
-    text.push(b"cells ")?;
-    push_number(text, cells)?;
-    text.push(b" missing ")?;
-    push_number(text, missing)?;
+    text.push(b"cells")?;
+    push_whole(text, u64::from(cells))?;
+    text.push(b" missing")?;
+    push_whole(text, u64::from(missing))?;
     text.push(b"\n")
 }
 
 fn push_band(text: &mut Text, edge: u32, count: u32) -> Result<(), Memory>
     ensures { OnOk result (text.new ≡ text.old ++ line_text (band_words edge count)) }
 {
-    text.push(b"band ")?;
-    push_number(text, edge)?;
-    text.push(b" ")?;
-    push_number(text, count)?;
+    text.push(b"band")?;
+    push_whole(text, u64::from(edge))?;
+    push_whole(text, u64::from(count))?;
     text.push(b"\n")
 }
 
 fn push_over(text: &mut Text, count: u32) -> Result<(), Memory>
     ensures { OnOk result (text.new ≡ text.old ++ line_text (over_words count)) }
 {
-    text.push(b"over ")?;
-    push_number(text, count)?;
+    text.push(b"over")?;
+    push_whole(text, u64::from(count))?;
     text.push(b"\n")
 }
 

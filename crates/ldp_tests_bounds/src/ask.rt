@@ -75,21 +75,21 @@ fn cells_in(alloc: Global, zone: &Zone, heights: &Heights) -> Result<Cells> {
     }
 }
 
-fn zone_of(alloc: Global, text: &str) -> Result<Zone> {
+pub fn zone_of(alloc: Global, text: &str) -> Result<Zone> {
     match read_zone(alloc, text.as_bytes()) {
         Ok(zone) => Ok(zone),
         Err(fault) => bail!("zone: {fault:?}"),
     }
 }
 
-fn heights_of(alloc: Global, text: &str) -> Result<Heights> {
+pub fn heights_of(alloc: Global, text: &str) -> Result<Heights> {
     match read_heights(alloc, text.as_bytes()) {
         Ok(heights) => Ok(heights),
         Err(fault) => bail!("heights: {fault:?}"),
     }
 }
 
-fn grids_of(alloc: Global, text: &str) -> Result<Grids> {
+pub fn grids_of(alloc: Global, text: &str) -> Result<Grids> {
     match read_grids(alloc, text.as_bytes()) {
         Ok(grids) => Ok(grids),
         Err(fault) => bail!("designs: {fault:?}"),

@@ -50,7 +50,7 @@ fn compare_plain<B: Bounds + Drop>(
 ) -> anyhow::Result<()>
     requires cells { 0 < length cells.now.cells }
     requires tolerance { IfSome tolerance IsTolerance }
-    requires other { IsOver grids.now (length cells.now.cells) (B.problem other) }
+    requires other { IsOver grids.now.families (length cells.now.cells) (B.problem other) }
 {
     let bounder = plain(rt.alloc(), grids, cells, tolerance)?;
     comparisons(rt, bounder, other, grids, cells.len(), questions)
@@ -65,7 +65,7 @@ fn plain(
     requires cells { 0 < length cells.now.cells }
     requires tolerance { IfSome tolerance IsTolerance }
     ensures { IfOk result (λ plain.
-        IsOver grids.now (length cells.now.cells) (⟦<Plain as Bounds>⟧.problem plain)) }
+        IsOver grids.now.families (length cells.now.cells) (⟦<Plain as Bounds>⟧.problem plain)) }
 {
     Plain::new(alloc, grids, cells, tolerance)
 }
@@ -79,7 +79,8 @@ fn cell_by_cell(
     requires cells { 0 < length cells.now.cells }
     requires tolerance { IfSome tolerance IsTolerance }
     ensures { IfOk result (λ bounder.
-        IsOver grids.now (length cells.now.cells) (⟦<CellByCell as Bounds>⟧.problem bounder)) }
+        IsOver grids.now.families (length cells.now.cells)
+        (⟦<CellByCell as Bounds>⟧.problem bounder)) }
 {
     CellByCell::new(alloc, grids, cells, tolerance)
 }

@@ -18,8 +18,8 @@ pub fn comparisons<A: Bounds + Drop, B: Bounds + Drop>(
     count: u32,
     questions: &str,
 ) -> Result<()>
-    requires left { IsOver grids.now count (A.problem left) }
-    requires right { IsOver grids.now count (B.problem right) }
+    requires left { IsOver grids.now.families count (A.problem left) }
+    requires right { IsOver grids.now.families count (B.problem right) }
 {
     compare_all(rt, &mut left, &mut right, grids, count, questions)
 }
@@ -32,8 +32,8 @@ fn compare_all<A: Bounds, B: Bounds>(
     count: u32,
     questions: &str,
 ) -> Result<()>
-    requires left { IsOver grids.now count (A.problem left.old) }
-    requires right { IsOver grids.now count (B.problem right.old) }
+    requires left { IsOver grids.now.families count (A.problem left.old) }
+    requires right { IsOver grids.now.families count (B.problem right.old) }
 {
     for question in questions.lines() {
         let answer = compared(left, right, grids, count, Place::of(question)?)?;
@@ -50,10 +50,10 @@ fn compared<A: Bounds, B: Bounds>(
     count: u32,
     place: Place,
 ) -> Result<Answer>
-    requires left { IsOver grids.now count (A.problem left.old) }
-    requires right { IsOver grids.now count (B.problem right.old) }
-    ensures left { IsOver grids.now count (A.problem left.new) }
-    ensures right { IsOver grids.now count (B.problem right.new) }
+    requires left { IsOver grids.now.families count (A.problem left.old) }
+    requires right { IsOver grids.now.families count (B.problem right.old) }
+    ensures left { IsOver grids.now.families count (A.problem left.new) }
+    ensures right { IsOver grids.now.families count (B.problem right.new) }
 {
     let mut b = all_of(grids, place.family)?;
     for number in 0..place.halvings {
@@ -76,11 +76,11 @@ fn bounds_agree<A: Bounds, B: Bounds>(
     count: u32,
     b: &DesignBox,
 ) -> bool
-    requires left { IsOver grids.now count (A.problem left.old) }
-    requires right { IsOver grids.now count (B.problem right.old) }
-    requires lies { LiesIn grids.now b.now }
-    ensures left { IsOver grids.now count (A.problem left.new) }
-    ensures right { IsOver grids.now count (B.problem right.new) }
+    requires left { IsOver grids.now.families count (A.problem left.old) }
+    requires right { IsOver grids.now.families count (B.problem right.old) }
+    requires lies { LiesIn grids.now.families b.now }
+    ensures left { IsOver grids.now.families count (A.problem left.new) }
+    ensures right { IsOver grids.now.families count (B.problem right.new) }
 {
     bound(left, grids, count, b) == bound(right, grids, count, b)
 }
@@ -93,10 +93,10 @@ fn costs_agree<A: Bounds, B: Bounds>(
     count: u32,
     b: &DesignBox,
 ) -> Result<bool>
-    requires left { IsOver grids.now count (A.problem left.old) }
-    requires right { IsOver grids.now count (B.problem right.old) }
-    ensures left { IsOver grids.now count (A.problem left.new) }
-    ensures right { IsOver grids.now count (B.problem right.new) }
+    requires left { IsOver grids.now.families count (A.problem left.old) }
+    requires right { IsOver grids.now.families count (B.problem right.old) }
+    ensures left { IsOver grids.now.families count (A.problem left.new) }
+    ensures right { IsOver grids.now.families count (B.problem right.new) }
 {
     let design = first_of(b);
     ensure!(admits(grids, &design), "no design");

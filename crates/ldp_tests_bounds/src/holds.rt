@@ -18,10 +18,10 @@ pub fn is_exact<B: Bounds>(
     b: &DesignBox,
     d: &Design,
 ) -> bool
-    requires over { IsOver grids.now count (B.problem bounds.old) }
-    requires lies { LiesIn grids.now b.now }
-    requires admitted { IsAdmitted grids.now d.now }
-    ensures { IsOver grids.now count (B.problem bounds.new) }
+    requires over { IsOver grids.now.families count (B.problem bounds.old) }
+    requires lies { LiesIn grids.now.families b.now }
+    requires admitted { IsAdmitted grids.now.families d.now }
+    ensures { IsOver grids.now.families count (B.problem bounds.new) }
 {
     let wanted = bound_of(cost(bounds, grids, count, d));
     bound(bounds, grids, count, b) == wanted
@@ -37,11 +37,11 @@ pub fn boxes_hold<B: Bounds>(
     last: &DesignBox,
     d: &Design,
 ) -> Answer
-    requires over { IsOver grids.now count (B.problem bounds.old) }
-    requires all { LiesIn grids.now all.now }
-    requires last { LiesIn grids.now last.now }
-    requires admitted { IsAdmitted grids.now d.now }
-    ensures { IsOver grids.now count (B.problem bounds.new) }
+    requires over { IsOver grids.now.families count (B.problem bounds.old) }
+    requires all { LiesIn grids.now.families all.now }
+    requires last { LiesIn grids.now.families last.now }
+    requires admitted { IsAdmitted grids.now.families d.now }
+    ensures { IsOver grids.now.families count (B.problem bounds.new) }
 {
     let mut b = *all;
     for number in 0..place.halvings {
@@ -66,11 +66,11 @@ fn is_below<B: Bounds>(
     last: &DesignBox,
     d: &Design,
 ) -> bool
-    requires over { IsOver grids.now count (B.problem bounds.old) }
-    requires lies { LiesIn grids.now b.now }
-    requires last { LiesIn grids.now last.now }
-    requires admitted { IsAdmitted grids.now d.now }
-    ensures { IsOver grids.now count (B.problem bounds.new) }
+    requires over { IsOver grids.now.families count (B.problem bounds.old) }
+    requires lies { LiesIn grids.now.families b.now }
+    requires last { LiesIn grids.now.families last.now }
+    requires admitted { IsAdmitted grids.now.families d.now }
+    ensures { IsOver grids.now.families count (B.problem bounds.new) }
 {
     for cell in 0..count {
         let low = lower(bounds, grids, count, b, cell);

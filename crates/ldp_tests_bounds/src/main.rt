@@ -1,11 +1,20 @@
-//! Asks the bounder and the sweep over stretches of cells what a script says, over public calls
-//! alone, and prints each line of the script and what was answered. The script is the standard
-//! input; what must be printed stands in the file `stdout` of this crate.
+//! Asks for cells, for designs and their boxes, and of the bounder and the sweep over stretches of
+//! cells what a script says, over public calls alone, and prints each line of the script and what
+//! was answered. The script is the standard input; what must be printed stands in the file `stdout`
+//! of this crate.
 //!
 //! A script has these lines:
 //!
 //! - `designs`, `zone`, `heights`, `questions` and `values`: that text begins anew, empty;
 //! - `| TEXT`: the line TEXT at the end of the text that began last;
+//! - `times N TEXT`: the same line N times;
+//! - `cells` and `area`: the places of `zone`, or of the whole area, that have a height: row,
+//!   column, centre in 10^-12 degrees, and millimetres; and how many have none;
+//! - `parts BOX` and `inputs BOX`: where a box of `designs` is cut, and the inputs at both its
+//!   ends; `at DESIGN`: those of a design; `longitude FAMILY INDEX` in 10^-12 degrees;
+//!   `admits DESIGN`: is it one of `designs`?
+//! - `order DESIGN, DESIGN`: how these are ordered, how they are the other way round, and the first
+//!   and itself. A design is the number of its family and its index on each axis;
 //! - `ask none` and `ask N`: the bounder over stretches of cells answers each line of `questions`,
 //!   with no tolerance or with N units of 10^-15; before that, the numbers of families and cells;
 //! - `compare none` and `compare N`: each line of `questions` is asked of that bounder and of the
@@ -37,10 +46,12 @@ mod answer;
 mod ask;
 mod bounders;
 mod compare;
+mod designs;
 mod halves;
 mod holds;
 mod over;
 mod place;
+mod places;
 mod questions;
 mod script;
 mod stretches;

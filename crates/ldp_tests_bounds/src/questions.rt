@@ -20,7 +20,7 @@ pub fn answers<B: Bounds + Drop>(
     count: u32,
     questions: &str,
 ) -> Result<()>
-    requires over { IsOver grids.now count (B.problem bounder) }
+    requires over { IsOver grids.now.families count (B.problem bounder) }
 {
     answer_all(rt, &mut bounder, grids, count, questions)
 }
@@ -32,7 +32,7 @@ fn answer_all<B: Bounds>(
     count: u32,
     questions: &str,
 ) -> Result<()>
-    requires over { IsOver grids.now count (B.problem bounds.old) }
+    requires over { IsOver grids.now.families count (B.problem bounds.old) }
 {
     for question in questions.lines() {
         let answer = answer(bounds, grids, count, question)?;
@@ -42,8 +42,8 @@ fn answer_all<B: Bounds>(
 }
 
 fn answer<B: Bounds>(bounds: &mut B, grids: &Grids, count: u32, question: &str) -> Result<Answer>
-    requires over { IsOver grids.now count (B.problem bounds.old) }
-    ensures { IsOver grids.now count (B.problem bounds.new) }
+    requires over { IsOver grids.now.families count (B.problem bounds.old) }
+    ensures { IsOver grids.now.families count (B.problem bounds.new) }
 {
     if let Some(answer) = told(bounds, question) {
         return Ok(answer);
@@ -78,8 +78,8 @@ fn answer_of_box<B: Bounds>(
     word: &str,
     place: Place,
 ) -> Result<Answer>
-    requires over { IsOver grids.now count (B.problem bounds.old) }
-    ensures { IsOver grids.now count (B.problem bounds.new) }
+    requires over { IsOver grids.now.families count (B.problem bounds.old) }
+    ensures { IsOver grids.now.families count (B.problem bounds.new) }
 {
     let all = all_of(grids, place.family)?;
     let b = halved(grids, &all, place.high, place.halvings);
@@ -103,8 +103,8 @@ fn answer_at_cell<B: Bounds>(
     place: Place,
     cell: u32,
 ) -> Result<Answer>
-    requires over { IsOver grids.now count (B.problem bounds.old) }
-    ensures { IsOver grids.now count (B.problem bounds.new) }
+    requires over { IsOver grids.now.families count (B.problem bounds.old) }
+    ensures { IsOver grids.now.families count (B.problem bounds.new) }
 {
     ensure!(cell < count, "no such cell: {cell}");
     let all = all_of(grids, place.family)?;

@@ -2,14 +2,14 @@ ghost use Rattle.std.specs.Prelude.{◌≡◌, ◌≤◌, ◌<◌, ◌^◌, ◌-
 ghost use Rattle.ldp_sweep.specs.Cut.{IsCut, IsWithin};
 ghost use Rattle.ldp_tests_bounds.specs.Values.{value_in};
 
-use ldp_sweep::{Memory, Node, Span, Sweep, nodes_of};
+use ldp_sweep::{Enclosure, Memory, Stretch, Sweep, nodes_of};
 use std::alloc::Global;
 
 /// The values at cells in a table, none where one is undefined.
 #[derive(Drop)]
 pub struct Values {
     values: Vec<Option<u128>>,
-    nodes: Vec<Node>,
+    nodes: Vec<Stretch>,
     ghost few: { length values.items < 2 ^ 32 },
     ghost cut: { IsCut (length values.items) nodes.items },
 }
@@ -25,7 +25,7 @@ impl Values {
         Ok(Values { values, nodes })
     }
 
-    fn node(&self, at: usize) -> Node
+    fn node(&self, at: usize) -> Stretch
         requires { at < length self.now.nodes.items }
         ensures { slice_get self.now.nodes.items at ≡ Some result }
     {
@@ -42,12 +42,12 @@ fn defined(value: u128) -> Option<u128>
 }
 
 /// The least and the greatest value at the cells from one to another, if all are defined.
-fn span_of(values: &[Option<u128>], from: u32, to: u32) -> Option<Span>
+fn span_of(values: &[Option<u128>], from: u32, to: u32) -> Option<Enclosure>
     requires ordered { from ≤ to }
     requires inside { to ≤ length values.now }
     ensures { IfSome result (IsWithin (value_in values.now) from to) }
 {
-    let mut span = Span {
+    let mut span = Enclosure {
         low: u128::MAX,
         high: 0,
     };
@@ -55,7 +55,7 @@ fn span_of(values: &[Option<u128>], from: u32, to: u32) -> Option<Span>
         let Some(value) = values[cell as usize] else {
             return None;
         };
-        span = Span {
+        span = Enclosure {
             low: span.low.min(value),
             high: span.high.max(value),
         };
@@ -78,7 +78,7 @@ impl Sweep for Values {
         self.values.len() as u32
     }
 
-    fn nodes(&self) -> &[Node] {
+    fn nodes(&self) -> &[Stretch] {
         &self.nodes
     }
 
@@ -89,7 +89,7 @@ impl Sweep for Values {
         }
     }
 
-    fn span(&mut self, at: usize) -> Option<Span> {
+    fn span(&mut self, at: usize) -> Option<Enclosure> {
         let node = self.node(at);
         span_of(&self.values, node.from, node.to)
     }

@@ -13,6 +13,7 @@
 
 mod alike;
 mod area;
+mod cut_runs;
 mod design;
 mod ellipsoid;
 mod in_ranges;
@@ -22,7 +23,6 @@ mod list;
 mod operation;
 mod plain;
 mod range;
-mod run_again;
 mod say;
 mod script;
 mod series;

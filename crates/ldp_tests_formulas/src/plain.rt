@@ -1,5 +1,5 @@
+use crate::cut_runs::cut_runs;
 use crate::operation::{is_of_one, is_of_two};
-use crate::run_again::run_again;
 use crate::say::{say, say_none, say_some};
 use crate::words::{ONE, numbers};
 use anyhow::{Result, bail, ensure};
@@ -10,7 +10,7 @@ pub fn answer(rt: &(impl Print + AllocGlobal), call: &str, rest: &str) -> Result
         "radians" => say_radians(rt, rest),
         "eta" => say(rt, eta(rest.parse()?)),
         "run" => run(rt, rest),
-        "run_again" => run_again(rt, rest),
+        "cut_runs" => cut_runs(rt, rest),
         _ => operation(rt, call, rest),
     }
 }

@@ -1,9 +1,9 @@
-use crate::escape::bytes_of;
+use crate::piece;
 use crate::show::{answer, named};
-use anyhow::{Context, Result, bail};
+use anyhow::{Result, bail};
 use ldp_design::Forest;
 use ldp_job::{Job, JobFault, Names, Report, read_job, write_job};
-use std::alloc::{AllocError, Global};
+use std::alloc::Global;
 
 /// Calls the reader over a text.
 pub fn ask(rt: &(impl Print + AllocGlobal), word: &str, text: &[u8]) -> Result<()> {
@@ -24,28 +24,8 @@ fn count(rt: &(impl Print + AllocGlobal), text: &[u8]) -> Result<()> {
 
 /// The fault of the text with a piece in place of so many bytes: `changed PLACE COUNT PIECE`.
 pub fn changed(rt: &(impl Print + AllocGlobal), rest: &str, text: &[u8]) -> Result<()> {
-    let (place, rest) = rest.split_once(' ').context("a place")?;
-    let (length, piece) = rest.split_once(' ').unwrap_or((rest, ""));
-    let place = place.parse::<usize>()?;
-    let length = length.parse::<usize>()?;
-    let piece = bytes_of(rt.alloc(), piece)?;
-    let text = with_piece(rt.alloc(), text, place, length, &piece)?;
+    let text = piece::changed(rt.alloc(), rest, text)?;
     count(rt, &text)
-}
-
-fn with_piece(
-    alloc: Global,
-    text: &[u8],
-    place: usize,
-    length: usize,
-    piece: &[u8],
-) -> Result<Vec<u8>, AllocError> {
-    let (front, rest) = text.split_at(place.min(text.len()));
-    let (_, back) = rest.split_at(length.min(rest.len()));
-    let mut changed = Vec::from_slice(alloc, front)?;
-    changed.extend_from_slice(piece)?;
-    changed.extend_from_slice(back)?;
-    Ok(changed)
 }
 
 /// The faults of the text's beginnings, the text itself left out, each with the lengths that have

@@ -19,12 +19,14 @@
 //! with an error.
 #![tactic(auto)]
 
+mod crs;
 mod decimal;
 mod escape;
 mod grids;
 mod heights;
 mod io;
 mod job;
+mod piece;
 mod quantity;
 mod question;
 mod reading;

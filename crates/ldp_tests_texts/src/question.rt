@@ -1,8 +1,8 @@
 use crate::heights::Fed;
-use crate::{heights, job, zone};
+use crate::{crs, heights, job, zone};
 use anyhow::Result;
 
-/// Asks of a text of heights, of a zone or of a job.
+/// Asks of a text of heights, of a zone, of a job, of a coordinate reference system or of families.
 pub fn ask(
     rt: &(impl Print + AllocGlobal),
     word: &str,
@@ -16,6 +16,8 @@ pub fn ask(
         "has" => zone::has(rt, rest, text),
         "ring" => zone::ring(rt, rest, text),
         "changed" => job::changed(rt, rest, text),
+        "line" => crs::changed(rt, rest, text),
+        "system" => crs::line(rt, rest, text),
         _ => job::beginnings(rt, text),
     }
 }

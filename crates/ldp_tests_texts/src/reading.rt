@@ -1,5 +1,5 @@
 use crate::heights::Fed;
-use crate::{decimal, grids, heights, job, quantity, spelling, tokens, zone};
+use crate::{crs, decimal, grids, heights, job, quantity, spelling, tokens, zone};
 use anyhow::{Result, bail};
 
 /// Calls the reader of this word over a text.
@@ -12,6 +12,7 @@ pub fn ask(rt: &(impl Print + AllocGlobal), word: &str, text: &[u8], fed: Fed) -
         "heights" => heights::size(rt, text, fed),
         "zone" => zone::count(rt, text),
         "grids" | "family" | "keys" => grids::ask(rt, word, text),
+        "crs" => crs::read(rt, text),
         "job" | "values" | "again" => job::ask(rt, word, text),
         _ => bail!("no such row: {word}"),
     }

@@ -32,9 +32,15 @@ impl Script {
             "written" | "short" => decimal::write(rt, word, rest),
             "append" => decimal::append(rt, rest),
             "tokens" => tokens::tokens(rt, rest),
-            "height" | "centre" | "started" | "has" | "ring" | "changed" | "beginnings" => {
-                question::ask(rt, word, rest, &self.text, self.fed)
-            }
+            "height"
+            | "centre"
+            | "started"
+            | "has"
+            | "ring"
+            | "changed"
+            | "beginnings"
+            | "line"
+            | "system" => question::ask(rt, word, rest, &self.text, self.fed),
             "read" => reading::ask(rt, rest, &self.text, self.fed),
             _ => self.ask_row(rt, word, rest),
         }

@@ -3,6 +3,7 @@
 use Rattle.std.specs.Prelude.{◌≡◌, ◌≤◌, ◌+◌, length}
 use Rattle.ldp_series.specs.declared.list.Lists.{Lists}
 
+-- the lists have these numbers of inputs, and the joint list has a result
 pub record Fitting (lists : Lists) : Type 0 where
   pub cell : lists.cell.inputs ≡ 3
   pub design : lists.design.inputs ≡ 4

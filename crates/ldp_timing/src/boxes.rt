@@ -123,8 +123,8 @@ pub fn bounds(alloc: Global, kind: Kind, runs: u32) -> Result<i128, Memory> {
 }
 
 fn sum_of_bounds<B: Bounds>(bounds: &mut B, grids: &Grids, runs: u32) -> i128
-    requires families { (B.problem bounds.old).families ≡ grids.now }
-    requires some { 0 < length grids.now }
+    requires families { (B.problem bounds.old).families ≡ grids.now.families }
+    requires some { 0 < length grids.now.families }
 {
     let mut b = whole(grids, 1);
     let mut sum = 0i128;
@@ -137,9 +137,9 @@ fn sum_of_bounds<B: Bounds>(bounds: &mut B, grids: &Grids, runs: u32) -> i128
 
 // The bound of a box, 0 where it has one design and that is not usable.
 fn bound_of<B: Bounds>(bounds: &mut B, grids: &Grids, b: &DesignBox) -> i128
-    requires families { (B.problem bounds.old).families ≡ grids.now }
-    requires lies { LiesIn grids.now b.now }
-    ensures { (B.problem bounds.new).families ≡ grids.now }
+    requires families { (B.problem bounds.old).families ≡ grids.now.families }
+    requires lies { LiesIn grids.now.families b.now }
+    ensures { (B.problem bounds.new).families ≡ grids.now.families }
 {
     match bounds.bound(b) {
         Bound::Low { value, .. } => value,
@@ -149,9 +149,9 @@ fn bound_of<B: Bounds>(bounds: &mut B, grids: &Grids, b: &DesignBox) -> i128
 
 // A part of a box, or the whole of the first family where it has one design.
 fn next_box(grids: &Grids, b: &DesignBox, high: bool) -> DesignBox
-    requires lies { LiesIn grids.now b.now }
-    requires some { 0 < length grids.now }
-    ensures { LiesIn grids.now result }
+    requires lies { LiesIn grids.now.families b.now }
+    requires some { 0 < length grids.now.families }
+    ensures { LiesIn grids.now.families result }
 {
     match split(grids, b) {
         Some((low, _)) if !high => low,

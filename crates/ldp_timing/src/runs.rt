@@ -2,13 +2,10 @@ ghost use Rattle.std.specs.Prelude.{◌≡◌, ◌≤◌, length};
 ghost use Rattle.ldp_num.specs.Steps.{most_steps};
 ghost use Rattle.ldp_timing.specs.Fitting.{Fitting};
 
-use ldp_num::{Bench, Fix, Num};
+use ldp_num::{Bench, Fix, MOST_INPUTS, Num};
 use ldp_range::{Range, sharp};
 use ldp_series::{List, Lists, Memory};
 use std::alloc::Global;
-
-/// The most inputs of a list.
-const MOST_INPUTS: usize = 16;
 
 /// A cell at latitude 40°, longitude -105° and 1500 m, as the inputs of a cell list.
 const CELL: [i128; 3] = [698_131_700_797_731, -1_832_595_714_594_046, 235_178_391_433];

@@ -83,9 +83,11 @@ joint_formula given = do
   distortion ← # k *ᶠ # given.factor -ᶠ whole 1
   answer (distortion ∷ [])
 
+-- the steps at a cell, from its latitude, longitude and height number
 abbrev pub cell_list : StepList
 cell_list = list_of 3 (cell_formula 0 1 2)
 
+-- the steps of a design; of its four inputs they take the longitude and the scale factor
 abbrev pub design_list : StepList
 design_list = list_of 4 (design_formula 0 1 2 3)
 
@@ -93,8 +95,10 @@ design_list = list_of 4 (design_formula 0 1 2 3)
 abbrev pub given : Given
 given = record { l0 = 0; k0 = 1; l = 2; c = 3; a1 = 4; a2 = 5; a3 = 6; factor = 7 }
 
+-- the steps to the distortion, from the results of a design and those at a cell
 abbrev pub joint_list : StepList
 joint_list = list_of 8 (joint_formula given)
 
+-- the lists of the transverse Mercator projection
 abbrev pub transverse_mercator : Lists
 transverse_mercator = record { cell = cell_list; design = design_list; joint = joint_list }

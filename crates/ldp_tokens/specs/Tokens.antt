@@ -36,6 +36,7 @@ pieces signs place (byte ∷ bytes) =
     ∷ pieces signs (place + 1) bytes
     else onto_first place byte (pieces signs (place + 1) bytes)
 
+-- whether a run has a byte at all
 abbrev pub is_some_run : List ℕ → Bool
 is_some_run [] = false
 is_some_run (byte ∷ bytes) = true
@@ -48,6 +49,7 @@ tokens signs place text = filter (λ piece. is_some_run piece.bytes) (pieces sig
 abbrev pub tokens_of : List ℕ → List ℕ → List Token
 tokens_of signs text = tokens signs (mark_len text) (without_mark text)
 
+-- a byte that is in no run: white space, or a sign
 abbrev pub ends_run : List ℕ → ℕ → Bool
 ends_run signs byte = is_white byte || is_sign signs byte
 

@@ -8,10 +8,10 @@ use Rattle.std.proofs.lemmas.Int.{ints}
 use Rattle.ldp_quantity.specs.Between.{int_between}
 use Rattle.ldp_design.specs.declared.family.Kind.{Kind}
 use Rattle.ldp_design.specs.declared.family.Kind.TheVariants.{Tm, Lambert, Hotine, Lambert2}
-use Rattle.ldp_grids.specs.declared.fault.Key.{Key}
-use Rattle.ldp_grids.specs.declared.fault.Key.TheVariants as keys
-use Rattle.ldp_grids.specs.declared.range.Range.{Range}
-use Rattle.ldp_grids.specs.Ranges.{range_of, is_in_range}
+use Rattle.ldp_design.specs.declared.key.Key.{Key}
+use Rattle.ldp_design.specs.declared.key.Key.TheVariants as keys
+use Rattle.ldp_design.specs.declared.key_range.KeyRange.{KeyRange}
+use Rattle.ldp_design.specs.KeyRanges.{range_of, is_in_range}
 use Rattle.ldp_wkt2.specs.declared.crs.Crs.{Crs}
 use Rattle.ldp_wkt2.specs.Values.{IsAllowed, IsCrs, IsThird, IsScaleOf, IsOriginOf, value_of}
 
@@ -32,12 +32,12 @@ pub le_yes : (m n : ℕ) → m ≤ n → nat_le m n ≡ true
 le_yes m n h = grind (arith, nat_tests)
 
 -- a number of a range
-pub record Lies (range : Range) (z : ℤ) : Type 0 where
+pub record Lies (range : KeyRange) (z : ℤ) : Type 0 where
   pub low : range.low ≤ℤ z
   pub high : z ≤ℤ range.high
   pub least : range.least ≤ unsigned_abs z
 
-pub lies_in : (range : Range) (z : ℤ) → Lies range z → IsTrue (is_in_range range z)
+pub lies_in : (range : KeyRange) (z : ℤ) → Lies range z → IsTrue (is_in_range range z)
 lies_in range z h =
     rw (
       int_le_yes range.low z h.low,
@@ -45,7 +45,7 @@ lies_in range z h =
       le_yes range.least (unsigned_abs z) h.least,
     ) refl
 
-pub lies : (range : Range) (z : ℤ) → IsTrue (is_in_range range z) → Lies range z
+pub lies : (range : KeyRange) (z : ℤ) → IsTrue (is_in_range range z) → Lies range z
 lies range z h =
     let all = both (int_between range.low range.high z) (nat_le range.least (unsigned_abs z))
     h in
@@ -57,7 +57,7 @@ lies range z h =
     }
 
 -- the range of each key is narrow
-pub record IsNarrow (range : Range) : Type 0 where
+pub record IsNarrow (range : KeyRange) : Type 0 where
   pub places : range.places ≤ 15
   pub low : negsuc 1999999999999999 ≤ℤ range.low
   pub high : range.high ≤ℤ pos 2000000000000000
@@ -82,7 +82,7 @@ narrow keys.Northing kind =
 narrow _ kind =
     record { places = lit≤ tt; low = record { le = tt }; high = record { le = tt } }
 
-small_in : (range : Range) (z : ℤ) → IsNarrow range → Lies range z
+small_in : (range : KeyRange) (z : ℤ) → IsNarrow range → Lies range z
     → unsigned_abs z ≤ 2000000000000000
 small_in range z n h = omega (arith, ints, n.low, n.high, h.low, h.high)
 

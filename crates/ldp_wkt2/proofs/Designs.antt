@@ -14,13 +14,13 @@ use Rattle.ldp_design.specs.declared.family.Kind.TheVariants.{Tm, Lambert, Hotin
 use Rattle.ldp_design.specs.Families.{value_at, last_value, single_axis, IsAxis}
 use Rattle.ldp_design.specs.Families.{IsParallelAxis, IsFalseOrigin, IsOfKind, IsValid}
 use Rattle.ldp_design.specs.Designs.{IsDesignOf}
-use Rattle.ldp_grids.specs.declared.fault.Key.TheVariants as keys
-use Rattle.ldp_grids.specs.declared.range.Range.{Range}
-use Rattle.ldp_grids.specs.Ranges.{numbers, latitudes, is_in_range}
+use Rattle.ldp_design.specs.declared.key.Key.TheVariants as keys
+use Rattle.ldp_design.specs.declared.key_range.KeyRange.{KeyRange}
+use Rattle.ldp_design.specs.KeyRanges.{numbers, latitudes, is_in_range}
 use Rattle.ldp_wkt2.proofs.Allowed.{lies_in}
 use Rattle.ldp_wkt2.specs.Values.{IsCrs, IsThird, IsScaleOf, IsOriginOf, IsAllowed, crs_at}
 
-in_range : (range : Range) (z : ℤ) → range.low ≤ℤ z → z ≤ℤ range.high
+in_range : (range : KeyRange) (z : ℤ) → range.low ≤ℤ z → z ≤ℤ range.high
     → range.least ≤ unsigned_abs z → IsTrue (is_in_range range z)
 in_range range z low high least = lies_in range z record { low = low; high = high; least = least }
 

@@ -15,10 +15,10 @@ use Rattle.ldp_spelling.specs.Numbers.{trimmed_in}
 use Rattle.ldp_spelling.proofs.Written.{trimmed_found, trimmed_again}
 use Rattle.ldp_design.specs.declared.family.Kind.{Kind}
 use Rattle.ldp_design.specs.declared.family.Kind.TheVariants.{Tm, Lambert, Hotine, Lambert2}
-use Rattle.ldp_grids.specs.declared.fault.Key.{Key}
-use Rattle.ldp_grids.specs.declared.fault.Key.TheVariants as keys
-use Rattle.ldp_grids.specs.declared.range.Range.{Range}
-use Rattle.ldp_grids.specs.Ranges.{range_of, is_in_range}
+use Rattle.ldp_design.specs.declared.key.Key.{Key}
+use Rattle.ldp_design.specs.declared.key.Key.TheVariants as keys
+use Rattle.ldp_design.specs.declared.key_range.KeyRange.{KeyRange}
+use Rattle.ldp_design.specs.KeyRanges.{range_of, is_in_range}
 use Rattle.ldp_wkt2.specs.declared.crs.Crs.{Crs}
 use Rattle.ldp_wkt2.specs.declared.fault.CrsFault.{CrsFault}
 use Rattle.ldp_wkt2.specs.declared.parameter.Parameter.{Parameter}
@@ -67,7 +67,7 @@ some_of f None y e = absurd cc
 some_of f (Some x) y e = (x, refl, e)
 
 -- the number of a range that is read is written so
-number_found : (range : Range) (text : List ℕ) (z : ℤ) → number_in range text ≡ Some z
+number_found : (range : KeyRange) (text : List ℕ) (z : ℤ) → number_in range text ≡ Some z
     → (text ≡ trimmed_text range.places z) × IsTrue (is_in_range range z)
 number_found range text z e =
     let step = some_of (far_enough range) (trimmed_in range.places range.low range.high text) z e in
@@ -84,7 +84,7 @@ number_found range text z e =
       },
     )
 
-number_again : (range : Range) (z : ℤ) → IsNarrow range → IsTrue (is_in_range range z)
+number_again : (range : KeyRange) (z : ℤ) → IsNarrow range → IsTrue (is_in_range range z)
     → number_in range (trimmed_text range.places z) ≡ Some z
 number_again range z n h =
     let is = lies range z h in

@@ -13,7 +13,7 @@ use Rattle.std.proofs.lemmas.Str.Parse.{IsNumeralModel, numerals_by_fold}
 use Rattle.ldp_decimal.specs.Grammar.{AreDigits, value_after}
 use Rattle.ldp_decimal.specs.Writing.{sign, padded, pointed, without_zeros, onto_kept, whole_digits}
 use Rattle.ldp_decimal.specs.Writing.{further_digits, trimmed_text}
-use Rattle.ldp_spelling.specs.Numbers.{limit}
+use Rattle.ldp_num.specs.Number.{limit}
 use Rattle.ldp_wkt2.specs.Reading.{is_value, run, behind_run}
 use Rattle.ldp_wkt2.proofs.Allowed.{both}
 

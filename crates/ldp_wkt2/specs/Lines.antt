@@ -4,7 +4,7 @@ use Rattle.std.specs.Prelude.{ℕ, ℤ, List, [], ◌∷◌, ◌++◌, codes}
 use Rattle.std.specs.List.{flat_map}
 use Rattle.ldp_decimal.specs.Writing.{trimmed_text}
 use Rattle.ldp_design.specs.declared.family.Kind.{Kind}
-use Rattle.ldp_grids.specs.Ranges.{range_of}
+use Rattle.ldp_design.specs.KeyRanges.{range_of}
 use Rattle.ldp_wkt2.specs.declared.crs.Crs.{Crs}
 use Rattle.ldp_wkt2.specs.declared.parameter.Parameter.{Parameter}
 use Rattle.ldp_wkt2.specs.Profile.{method_of, row_of, parameters_of, unit_of}
@@ -29,10 +29,11 @@ id_text code = codes ",ID[\"EPSG\"," ++ (code ++ codes "]]")
 unfoldable pub method_text : Kind → List ℕ
 method_text kind = (method_of kind).name ++ 34 ∷ id_text (method_of kind).code
 
--- a parameter up to its value, and what follows its value
+-- a parameter up to its value
 unfoldable pub before : Parameter → List ℕ
 before p = codes ",PARAMETER[\"" ++ ((row_of p).name ++ codes "\",")
 
+-- what follows the value of a parameter: its unit and its code number
 unfoldable pub behind : Parameter → List ℕ
 behind p = 44 ∷ (unit_of (row_of p).key ++ id_text (row_of p).code)
 
@@ -40,7 +41,7 @@ behind p = 44 ∷ (unit_of (row_of p).key ++ id_text (row_of p).code)
 abbrev pub number_text : Kind → Parameter → ℤ → List ℕ
 number_text kind p z = trimmed_text (range_of (row_of p).key kind).places z
 
--- the rectified angle is that of the azimuth
+-- a parameter with its value; that of the rectified angle is the azimuth
 abbrev pub parameter_text : Crs → Parameter → List ℕ
 parameter_text c p = before p ++ (number_text c.kind p (value_of (row_of p).key c) ++ behind p)
 

@@ -4,8 +4,8 @@
 use Rattle.std.specs.Prelude.{ℕ, List, [], ◌∷◌, codes}
 use Rattle.ldp_design.specs.declared.family.Kind.{Kind}
 use Rattle.ldp_design.specs.declared.family.Kind.TheVariants.{Tm, Lambert, Hotine, Lambert2}
-use Rattle.ldp_grids.specs.declared.fault.Key.{Key}
-use Rattle.ldp_grids.specs.declared.fault.Key.TheVariants as keys
+use Rattle.ldp_design.specs.declared.key.Key.{Key}
+use Rattle.ldp_design.specs.declared.key.Key.TheVariants as keys
 use Rattle.ldp_wkt2.specs.declared.parameter.Parameter.{Parameter}
 use Rattle.ldp_wkt2.specs.declared.parameter.Parameter.TheVariants as are
 
@@ -14,9 +14,11 @@ pub record Method : Type 0 where
   pub name : List ℕ
   pub code : List ℕ
 
+-- the method with this name and code number
 abbrev pub method : List ℕ → List ℕ → Method
 method name code = record { name = name; code = code }
 
+-- the method of the projection of each kind
 abbrev pub method_of : Kind → Method
 method_of Tm = method (codes "Transverse Mercator") (codes "9807")
 method_of Lambert = method (codes "Lambert Conic Conformal (1SP)") (codes "9801")
@@ -29,9 +31,11 @@ pub record Row : Type 0 where
   pub name : List ℕ
   pub code : List ℕ
 
+-- the parameter with this key, name and code number
 abbrev pub row : Key → List ℕ → List ℕ → Row
 row key name code = record { key = key; name = name; code = code }
 
+-- what the profile says of each parameter
 abbrev pub row_of : Parameter → Row
 row_of are.LatitudeOfNaturalOrigin =
     row keys.Lat (codes "Latitude of natural origin") (codes "8801")
@@ -61,6 +65,7 @@ row_of are.EastingAtFalseOrigin = row keys.Easting (codes "Easting at false orig
 row_of are.NorthingAtFalseOrigin =
     row keys.Northing (codes "Northing at false origin") (codes "8827")
 
+-- the parameters of a projection with a natural origin, in the order of the line
 abbrev pub natural_origin : List Parameter
 natural_origin =
     are.LatitudeOfNaturalOrigin ∷ are.LongitudeOfNaturalOrigin ∷ are.ScaleAtNaturalOrigin
@@ -77,9 +82,20 @@ parameters_of Lambert2 =
     are.LatitudeOfFalseOrigin ∷ are.LongitudeOfFalseOrigin ∷ are.FirstParallel
     ∷ are.SecondParallel ∷ are.EastingAtFalseOrigin ∷ are.NorthingAtFalseOrigin ∷ []
 
--- the unit in which the value of a key is written
+-- the unit of an angle
+abbrev pub degree_unit : List ℕ
+degree_unit = codes "ANGLEUNIT[\"degree\",0.0174532925199433]"
+
+-- the unit in which the value of a key is written; a key without numbers has that of an angle
 abbrev pub unit_of : Key → List ℕ
 unit_of keys.Scale = codes "SCALEUNIT[\"unity\",1]"
 unit_of keys.Easting = codes "LENGTHUNIT[\"metre\",1]"
 unit_of keys.Northing = codes "LENGTHUNIT[\"metre\",1]"
-unit_of _ = codes "ANGLEUNIT[\"degree\",0.0174532925199433]"
+unit_of keys.Top = degree_unit
+unit_of keys.Family = degree_unit
+unit_of keys.Kind = degree_unit
+unit_of keys.Lat = degree_unit
+unit_of keys.Lat2 = degree_unit
+unit_of keys.Lon = degree_unit
+unit_of keys.Azimuth = degree_unit
+unit_of keys.Origin = degree_unit

@@ -11,10 +11,10 @@ use Rattle.ldp_quantity.specs.Quantity.{tenths}
 use Rattle.ldp_spelling.specs.Numbers.{trimmed_in}
 use Rattle.ldp_design.specs.declared.family.Kind.{Kind}
 use Rattle.ldp_design.specs.declared.family.Kind.TheVariants.{Tm, Lambert, Hotine, Lambert2}
-use Rattle.ldp_grids.specs.declared.fault.Key.{Key}
-use Rattle.ldp_grids.specs.declared.fault.Key.TheVariants as keys
-use Rattle.ldp_grids.specs.declared.range.Range.{Range}
-use Rattle.ldp_grids.specs.Ranges.{range_of}
+use Rattle.ldp_design.specs.declared.key.Key.{Key}
+use Rattle.ldp_design.specs.declared.key.Key.TheVariants as keys
+use Rattle.ldp_design.specs.declared.key_range.KeyRange.{KeyRange}
+use Rattle.ldp_design.specs.KeyRanges.{range_of}
 use Rattle.ldp_wkt2.specs.declared.crs.Crs.{Crs}
 use Rattle.ldp_wkt2.specs.declared.fault.CrsFault.{CrsFault}
 use Rattle.ldp_wkt2.specs.declared.fault.CrsFault.TheVariants.{NotThisProfile}
@@ -48,18 +48,20 @@ rest_behind (b ∷ bs) (c ∷ cs) = if b == c then rest_behind bs cs else None
 abbrev pub is_value : ℕ → Bool
 is_value byte = (nat_le 48 byte && nat_le byte 57) || ((byte == 45) || (byte == 46))
 
--- the longest run of them, and what follows it
+-- the longest run of such bytes in front
 abbrev pub run : List ℕ → List ℕ
 run text = take (prefix_len is_value text) text
 
+-- what follows the longest run of them
 abbrev pub behind_run : List ℕ → List ℕ
 behind_run text = drop (prefix_len is_value text) text
 
-abbrev pub far_enough : Range → ℤ → Option ℤ
+-- a value that is at least as far from 0 as the range asks; None if it is nearer
+abbrev pub far_enough : KeyRange → ℤ → Option ℤ
 far_enough range z = if nat_le range.least (unsigned_abs z) then Some z else None
 
 -- the number of the range whose one spelling this is
-abbrev pub number_in : Range → List ℕ → Option ℤ
+abbrev pub number_in : KeyRange → List ℕ → Option ℤ
 number_in range text =
     option_and_then (far_enough range) (trimmed_in range.places range.low range.high text)
 
@@ -76,6 +78,7 @@ blank kind = record {
   northing = pos 0;
 }
 
+-- the system with another value of a key; a key that has no number changes nothing
 abbrev pub with_value : Key → ℤ → Crs → Crs
 with_value keys.Lat z c = record c { lat = z }
 with_value keys.Lat2 z c = record c { azimuth = z }
@@ -85,7 +88,9 @@ with_value keys.Scale z c = record c { scale = z }
 with_value keys.Origin z c = record c { origin = z }
 with_value keys.Easting z c = record c { easting = z }
 with_value keys.Northing z c = record c { northing = z }
-with_value _ z c = c
+with_value keys.Top z c = c
+with_value keys.Family z c = c
+with_value keys.Kind z c = c
 
 -- the rectified angle stands behind the azimuth
 abbrev pub is_rectified : Parameter → Bool
@@ -98,7 +103,7 @@ with_number p c z =
     if is_rectified p then (if int_eq z c.azimuth then Some c else None)
     else Some (with_value (row_of p).key z c)
 
--- the system with the value of a parameter
+-- the system with the value that a text gives a parameter; None if it gives none
 abbrev pub valued : Parameter → Crs → List ℕ → Option Crs
 valued p c text =
     option_and_then (with_number p c) (number_in (range_of (row_of p).key c.kind) text)
@@ -113,6 +118,7 @@ abbrev pub fitted : {A : Type 0} → ℕ → List ℕ → Option A → (A → Re
 fitted size left None go = Err (misfit size left)
 fitted size left (Some a) go = go a
 
+-- the system, if nothing is left behind the last piece; the whole text has so many bytes
 abbrev pub ended : ℕ → Crs → List ℕ → Result Crs CrsFault
 ended size c [] = Ok c
 ended size c (b ∷ bs) = Err (misfit size (b ∷ bs))
@@ -125,6 +131,7 @@ read_pieces size c left (Fixed text ∷ pieces) =
 read_pieces size c left (Value p ∷ pieces) =
     fitted size left (valued p c (run left)) (λ d. read_pieces size d (behind_run left) pieces)
 
+-- whether what is left begins with the method of this kind
 abbrev pub has_method : List ℕ → Kind → Bool
 has_method left kind = is_some (rest_behind (method_text kind) left)
 
@@ -132,6 +139,7 @@ has_method left kind = is_some (rest_behind (method_text kind) left)
 unfoldable pub kind_at : List ℕ → Option Kind
 kind_at left = find (has_method left) (Tm ∷ Lambert ∷ Hotine ∷ Lambert2 ∷ [])
 
+-- the system of what is left of a text of so many bytes, from the name of the method on
 abbrev pub read_method : ℕ → List ℕ → Result Crs CrsFault
 read_method size left =
     fitted size left (kind_at left) (λ kind. read_pieces size (blank kind) left (pieces_of kind))

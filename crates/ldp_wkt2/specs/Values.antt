@@ -6,9 +6,9 @@ use Rattle.ldp_design.specs.declared.family.Family.{Family}
 use Rattle.ldp_design.specs.declared.family.Kind.{Kind}
 use Rattle.ldp_design.specs.declared.family.Kind.TheVariants.{Tm, Lambert, Hotine, Lambert2}
 use Rattle.ldp_design.specs.Families.{family_of, value_at}
-use Rattle.ldp_grids.specs.declared.fault.Key.{Key}
-use Rattle.ldp_grids.specs.declared.fault.Key.TheVariants as keys
-use Rattle.ldp_grids.specs.Ranges.{range_of, is_in_range}
+use Rattle.ldp_design.specs.declared.key.Key.{Key}
+use Rattle.ldp_design.specs.declared.key.Key.TheVariants as keys
+use Rattle.ldp_design.specs.KeyRanges.{range_of, is_in_range}
 use Rattle.ldp_wkt2.specs.declared.crs.Crs.{Crs}
 
 -- the value of a key; Crs keeps the second parallel where other kinds have the azimuth
@@ -21,7 +21,9 @@ value_of keys.Scale c = c.scale
 value_of keys.Origin c = c.origin
 value_of keys.Easting c = c.easting
 value_of keys.Northing c = c.northing
-value_of _ c = pos 0
+value_of keys.Top c = pos 0
+value_of keys.Family c = pos 0
+value_of keys.Kind c = pos 0
 
 -- a value that the key may have in a family of the kind
 abbrev pub IsAllowed : Key → Kind → ℤ → Type 0
@@ -37,14 +39,18 @@ IsThird Lambert2 z = IsAllowed keys.Lat2 Lambert2 z
 -- 1 with two parallels
 abbrev pub IsScaleOf : Kind → ℤ → Type 0
 IsScaleOf Lambert2 z = z ≡ tenths 10
-IsScaleOf kind z = IsAllowed keys.Scale kind z
+IsScaleOf Tm z = IsAllowed keys.Scale Tm z
+IsScaleOf Lambert z = IsAllowed keys.Scale Lambert z
+IsScaleOf Hotine z = IsAllowed keys.Scale Hotine z
 
 -- 0 but with two parallels
 abbrev pub IsOriginOf : Kind → ℤ → Type 0
 IsOriginOf Lambert2 z = IsAllowed keys.Origin Lambert2 z
-IsOriginOf kind z = z ≡ pos 0
+IsOriginOf Tm z = z ≡ pos 0
+IsOriginOf Lambert z = z ≡ pos 0
+IsOriginOf Hotine z = z ≡ pos 0
 
--- a system that has a line
+-- a system that has a line: each value is one that its key may have
 pub record IsCrs (c : Crs) : Type 0 where
   pub lat : IsAllowed keys.Lat c.kind c.lat
   pub lon : IsAllowed keys.Lon c.kind c.lon

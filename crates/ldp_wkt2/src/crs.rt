@@ -28,8 +28,8 @@ pub struct Crs {
 
 /// The coordinate reference system of a design. Takes no memory.
 pub fn crs_of(grids: &Grids, d: &Design) -> Crs
-    requires { IsAdmitted grids.now d.now }
-    ensures value { crs_of grids.now d.now ≡ Some result }
+    requires { IsAdmitted grids.now.families d.now }
+    ensures value { crs_of grids.now.families d.now ≡ Some result }
     ensures range { IsCrs result }
 {
     family_crs(grids.family(d.family), d)

@@ -62,6 +62,7 @@ pub fn parts_behind(parameter: Parameter) -> [&'static [u8]; 5]
     ]
 }
 
+/// Pushes parts of a text one behind the other.
 pub fn push_parts(text: &mut Text, parts: &[&[u8]]) -> Result<(), Memory>
     ensures { OnOk result (text.new ≡ text.old ++ flat_map (λ part. part.now) parts.now) }
 {

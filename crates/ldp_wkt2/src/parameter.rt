@@ -1,7 +1,7 @@
 ghost use Rattle.std.specs.Prelude.{◌≡◌, ◌≤◌, ◌≤ℤ◌, pos, neg_ℤ};
 ghost use Rattle.ldp_wkt2.specs.Profile.{row_of, unit_of};
 
-use ldp_grids::Key;
+use ldp_design::Key;
 
 /// A parameter of a method, as the EPSG register names it.
 #[derive(Clone, Copy, Debug, PartialEq, Eq)]
@@ -53,6 +53,7 @@ impl Parameter {
         }
     }
 
+    /// The name, as it stands in a line.
     pub fn name(self) -> &'static [u8]
         ensures { result.now ≡ (row_of self).name }
     {
@@ -112,6 +113,13 @@ pub fn unit_of(key: Key) -> &'static [u8]
     match key {
         Key::Scale => b"SCALEUNIT[\"unity\",1]",
         Key::Easting | Key::Northing => b"LENGTHUNIT[\"metre\",1]",
-        _ => b"ANGLEUNIT[\"degree\",0.0174532925199433]",
+        Key::Top
+        | Key::Family
+        | Key::Kind
+        | Key::Lat
+        | Key::Lat2
+        | Key::Lon
+        | Key::Azimuth
+        | Key::Origin => b"ANGLEUNIT[\"degree\",0.0174532925199433]",
     }
 }

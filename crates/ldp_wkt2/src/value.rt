@@ -1,5 +1,5 @@
 ghost use Rattle.std.specs.Prelude.{◌≡◌, ◌≤◌, ◌≤ℤ◌, negsuc, pos, unsigned_abs, IfSome};
-ghost use Rattle.ldp_grids.specs.Ranges.{range_of};
+ghost use Rattle.ldp_design.specs.KeyRanges.{range_of};
 ghost use Rattle.ldp_wkt2.specs.Profile.{row_of};
 ghost use Rattle.ldp_wkt2.specs.Values.{value_of};
 ghost use Rattle.ldp_wkt2.specs.Reading.{number_in, blank, with_value, is_rectified};
@@ -7,8 +7,7 @@ ghost use Rattle.ldp_wkt2.specs.Reading.{with_number, valued};
 
 use crate::crs::Crs;
 use crate::parameter::Parameter;
-use ldp_design::Kind;
-use ldp_grids::{Key, Range, range_of};
+use ldp_design::{Key, Kind, range_of};
 use ldp_spelling::read_trimmed;
 
 /// A scale factor of 1, in 10^-15.

@@ -10,7 +10,7 @@ use crate::method::parameters_of;
 use crate::parameter::Parameter;
 use crate::value::value_of;
 use ldp_decimal::{Memory, Text, write_trimmed};
-use ldp_grids::range_of;
+use ldp_design::range_of;
 use std::alloc::Global;
 
 /// The value of a parameter as a text.

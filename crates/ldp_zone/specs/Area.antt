@@ -7,7 +7,7 @@ use Rattle.ldp_quantity.specs.Quantity.{degrees, IsLongitude, IsLatitude}
 use Rattle.ldp_zone.specs.declared.point.Point.{Point}
 use Rattle.ldp_zone.specs.declared.edge.Edge.{Edge}
 
--- a point that a zone may have
+-- a point in the area of longitudes -180 to 360 and latitudes -80 to 80 degrees
 pub record IsNear (p : Point) : Type 0 where
   pub longitude : IsLongitude p.x
   pub latitude : IsLatitude p.y
@@ -27,7 +27,7 @@ pub record IsEdge (edge : Edge) : Type 0 where
 abbrev pub IsFar : ℤ → Type 0
 IsFar = IsBetween (neg_ℤ (pos (10 ^ 20))) (pos (10 ^ 20))
 
--- a point that may be asked for
+-- a point whose coordinates are at most 10^20 in absolute value
 pub record IsPlace (p : Point) : Type 0 where
   pub x : IsFar p.x
   pub y : IsFar p.y
@@ -43,7 +43,7 @@ pub record IsRing (ring : List Point) : Type 0 where
 abbrev pub point_count : List (List Point) → ℕ
 point_count rings = sum_by length rings
 
--- what every zone keeps
+-- the rings of a zone: at most 10,000 points, closing points too
 pub record IsZone (rings : List (List Point)) : Type 0 where
   pub each : All IsRing rings
   pub few : point_count rings ≤ 10_000

@@ -14,13 +14,16 @@ abbrev pub fault_at : ℕ → Unfit → ZoneFault
 fault_at place unfits.NotANumber = BadNumber place
 fault_at place unfits.OutOfRange = OutOfRange place
 
+-- a number that may stand there, or its fault at this place
 abbrev pub fit_or_fault : ℕ → Result ℤ Unfit → Result ℤ ZoneFault
 fit_or_fault place (Ok n) = Ok n
 fit_or_fault place (Err unfit) = Err (fault_at place unfit)
 
+-- a number from -180 to 360, in units of 10^-12 degrees, or the fault of the token
 unfoldable pub longitude : Token → Result ℤ ZoneFault
 longitude token = fit_or_fault token.place (longitude_of token.bytes)
 
+-- a number from -80 to 80, in units of 10^-12 degrees, or the fault of the token
 unfoldable pub latitude : Token → Result ℤ ZoneFault
 latitude token = fit_or_fault token.place (latitude_of token.bytes)
 

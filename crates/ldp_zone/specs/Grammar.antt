@@ -90,6 +90,7 @@ point end rings before tokens = do
 
 -- Rings.
 
+-- whether a ring is closed: both ends are there, and they are one point
 abbrev pub same_ends : Option Point → Option Point → Bool
 same_ends (Some p) (Some q) = same_point p q
 same_ends _ _ = false

@@ -8,6 +8,7 @@ use Rattle.std.specs.Ordering.{int_eq}
 use Rattle.ldp_zone.specs.declared.point.Point.{Point}
 use Rattle.ldp_zone.specs.declared.edge.Edge.{Edge}
 
+-- whether two points have the same longitude and the same latitude
 abbrev pub same_point : Point → Point → Bool
 same_point p q = int_eq p.x q.x && int_eq p.y q.y
 
@@ -30,6 +31,7 @@ edges rings = flat_map ring_edges rings
 unfoldable pub edge_east : Point → Edge → ℤ
 edge_east at edge = (at.y -ℤ edge.start.y) *ℤ (edge.end.x -ℤ edge.start.x)
 
+-- how far the point lies east of the edge's start, times the edge's rise
 unfoldable pub point_east : Point → Edge → ℤ
 point_east at edge = (at.x -ℤ edge.start.x) *ℤ (edge.end.y -ℤ edge.start.y)
 
@@ -52,6 +54,7 @@ meets_east at edge =
 unfoldable pub crosses : Point → Edge → Bool
 crosses at edge = spans at edge && meets_east at edge
 
+-- whether n lies between a and b, whichever of them is the lesser; both ends are between
 abbrev pub between : ℤ → ℤ → ℤ → Bool
 between a b n = (int_le a n && int_le n b) || (int_le b n && int_le n a)
 
@@ -65,6 +68,7 @@ on_line at edge =
     int_le (edge_east at edge) (point_east at edge)
     && int_le (point_east at edge) (edge_east at edge)
 
+-- the point lies on the edge, or is one of its ends
 unfoldable pub on_edge : Point → Edge → Bool
 on_edge at edge = in_box at edge && on_line at edge
 
@@ -72,5 +76,6 @@ on_edge at edge = in_box at edge && on_line at edge
 unfoldable pub inside_of : List Edge → Point → Bool
 inside_of edges at = list_any (on_edge at) edges || (count_by (crosses at) edges % 2 == 1)
 
+-- whether the point of longitude x and latitude y lies in a zone of these rings
 unfoldable pub inside : List (List Point) → ℤ → ℤ → Bool
 inside rings x y = inside_of (edges rings) record { x = x; y = y }

@@ -25,6 +25,7 @@ pub record Progress : Type 0 where
   pub x : ℤ
   pub count : ℕ
 
+-- what was read with a token more, or the fault
 abbrev pub Step : Type 0
 Step = Result Progress ZoneFault
 
@@ -36,6 +37,7 @@ begin = record { spot = spots.Geometry; multi = false; rings = []; ring = []; x 
 abbrev pub unfit : Token → Step
 unfit token = Err (NotAPolygon token.place)
 
+-- a word was read: what may stand next, and whether the geometry is a multipolygon
 abbrev pub behind_word : Spot → Bool → Progress → Step
 behind_word spot multi p = Ok record p { spot = spot; multi = multi }
 
@@ -81,6 +83,7 @@ begun p token =
     longitude_behind p.count token
     >>= λ x. Ok record p { spot = spots.Second; x = x; count = p.count + 1 }
 
+-- a point begins with a number; a bracket or a comma does not fit
 unfoldable pub first : Progress → Token → Step
 first p token = if is_run token then begun p token else unfit token
 
@@ -90,6 +93,7 @@ ended p token =
     latitude token
     >>= λ y. Ok record p { spot = spots.Third; ring = p.ring ++ record { x = p.x; y = y } ∷ [] }
 
+-- a second number; a bracket or a comma does not fit
 unfoldable pub second : Progress → Token → Step
 second p token = if is_run token then ended p token else unfit token
 
@@ -132,6 +136,7 @@ polygon_end p token =
     else if is_close token then Ok record p { spot = spots.End }
     else unfit token
 
+-- what is read of a token at each spot; behind the geometry none may stand
 abbrev pub step_at : Spot → Progress → Token → Step
 step_at spots.Geometry p token = geometry p token
 step_at spots.Dimension p token = dimension p token
@@ -150,6 +155,7 @@ step_at spots.End p token = Err (Trailing token.place)
 unfoldable pub step : Progress → Token → Step
 step p token = step_at p.spot p token
 
+-- whether the geometry is whole
 abbrev pub is_end : Spot → Bool
 is_end spots.End = true
 is_end _ = false

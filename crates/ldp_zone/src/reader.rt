@@ -57,6 +57,7 @@ impl Model for Reader {
 }
 
 impl Reader {
+    /// Before the first token.
     pub fn new(alloc: Global) -> Self
         ensures { result ≡ begin }
     {

@@ -29,6 +29,7 @@ impl Model for Ring {
 }
 
 impl Ring {
+    /// The ring of these points, the last of which is the first.
     pub fn new(points: Vec<Point>) -> Self
         requires { IsRing points.items }
         ensures { result ≡ points.items }
@@ -36,6 +37,7 @@ impl Ring {
         Ring { points }
     }
 
+    /// The points in order, of which the last is the first.
     pub fn points(&self) -> &[Point]
         ensures value { result.now ≡ self.now }
         ensures keeps { IsRing result.now }

@@ -1,5 +1,5 @@
 use Rattle.std.proofs.Common.{◌≡◌, IfOk, ap, subst, ◌∙◌}
-use Rattle.ldp_bound.specs.Plain.{plain_problem}
+use Rattle.ldp_answer.specs.Problem.{problem_over}
 use Rattle.ldp_check.specs.Verdicts.{verdict_of}
 use Rattle.ldp_answer.proofs.check.verdict_over.Goals as goal
 
@@ -8,5 +8,6 @@ returns-clause-verdict c =
     subst (λ p. IfOk c.check.result (λ verdict.
     verdict ≡ verdict_of p c.args.cells.now c.args.names.now c.args.job.now))
     (c.in_ok-bounds.ensures.problem
-    ∙ ap (plain_problem c.args.grids.now c.args.cells.now.cells) c.tolerance_of.ensures.value)
+    ∙ ap (problem_over c.args.grids.now.families c.args.cells.now.cells)
+    c.tolerance_of.ensures.value)
     c.check.ensures.verdict

@@ -1,6 +1,6 @@
 use Rattle.std.proofs.Common.{◌<◌, length, option_map, unsigned_abs, subst, sym}
 use Rattle.ldp_problem.proofs.Facts.{worst_at_cell}
-use Rattle.ldp_bound.specs.Plain.{plain_problem}
+use Rattle.ldp_answer.specs.Problem.{problem_over}
 use Rattle.ldp_answer.proofs.Designs.{IsKnown, has_text, found_job, accepted_job}
 use Rattle.ldp_answer.proofs.design.certificate.Goals.{After-job_of}
 use Rattle.ldp_answer.proofs.design.certificate.Goals as goal
@@ -8,10 +8,10 @@ use Rattle.ldp_answer.proofs.design.certificate.Goals as goal
 pub job_of-requires-clause-cell : goal.job_of-requires-clause-cell
 job_of-requires-clause-cell c =
     subst (λ cell. cell < length c.args.cells.now.cells) (sym c.requires.cost.cell)
-    (worst_at_cell (plain_problem c.args.grids.now c.args.cells.now.cells
+    (worst_at_cell (problem_over c.args.grids.now.families c.args.cells.now.cells
     (option_map unsigned_abs c.args.tolerance)) c.args.found.design c.requires.some)
 
-known : (c : After-job_of) → IsKnown c.args.grids.now c.args.cells.now c.args.names
+known : (c : After-job_of) → IsKnown c.args.grids.now.families c.args.cells.now c.args.names
     c.args.tolerance c.args.budget c.args.found c.job_of.result
 known c = record {
   grids = c.families-families.ensures.grids;

@@ -12,7 +12,8 @@ use Rattle.ldp_answer.proofs.sample.sample_over.Goals as goal
 pub returns-clause-accepted : goal.returns-clause-accepted
 returns-clause-accepted c =
     let j = c.in_ok-job.job in
-    let verdict : verdict_over c.in_ok-cells.cells c.in_ok-grids.grids no_files j ≡ Accepted =
+    let verdict : verdict_over c.in_ok-cells.cells c.in_ok-grids.grids.families no_files j
+    ≡ Accepted =
     (c.in_ok-job.ensures.accepted no_files (inl refl)).verdict in
     let checked : c.bytes.result.now ≡ codes "accepted\n" =
     c.bytes.ensures

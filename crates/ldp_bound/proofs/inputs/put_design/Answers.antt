@@ -4,12 +4,6 @@ use Rattle.ldp_num.specs.Written.{plain_out}
 use Rattle.ldp_bound.proofs.Runs.{meant, run_numbers}
 use Rattle.ldp_bound.proofs.inputs.put_design.Goals as goal
 
-pub put_results-requires : goal.put_results-requires
-put_results-requires c = (
-  omega arith,
-  (meant c.number_inputs.result ∙ ap (map plain_out) c.number_inputs.ensures, c.requires.inputs),
-)
-
 pub returns : goal.returns
 returns c =
     let list = c.args.cells.now.lists.design in

@@ -1,8 +1,10 @@
+use Rattle.std.proofs.Common.{ap}
+use Rattle.ldp_design.specs.Grids.{DesignGrids}
 use Rattle.ldp_bound.proofs.Families.{copied_more}
 use Rattle.ldp_bound.proofs.kept.copied.Goals as goal
 
 pub loop-index-preserved : goal.loop-index-preserved
 loop-index-preserved c =
-    copied_more c.args.grids.now c.loop-index.copy c.push.new.self c.loop-index.index
+    copied_more c.args.grids.now.families c.loop-index.copy.families c.push.new.self.families c.loop-index.index
     c.family.result.now c.family.ensures.value
-    c.in_ok-push.ensures.ok c.loop-index.invariant
+    (ap (λ (g : DesignGrids). g.families) c.in_ok-push.ensures.ok) c.loop-index.invariant

@@ -3,7 +3,7 @@ use Rattle.ldp_num.specs.Number.{limit}
 use Rattle.ldp_num.specs.Steps.{most_steps}
 use Rattle.ldp_problem.specs.Costs.{at_cells}
 use Rattle.ldp_bound.specs.Kept.{low_from}
-use Rattle.ldp_bound.specs.Tally.{tally_of}
+use Rattle.ldp_bound.specs.Summary.{tally_of}
 use Rattle.ldp_bound.proofs.lows.told.Given as goal
 
 abbrev pub invariant-loop-cell : goal.invariant-loop-cell

@@ -4,7 +4,7 @@ use Rattle.std.specs.Option.{is_none}
 use Rattle.ldp_num.specs.declared.fix.Fix.{Fix}
 use Rattle.ldp_distortion.specs.Inputs.{numbers}
 use Rattle.ldp_bound.specs.Kept.{size_from}
-use Rattle.ldp_bound.specs.Tally.{cost_over}
+use Rattle.ldp_bound.specs.Summary.{cost_over}
 use Rattle.ldp_bound.proofs.Loops.{told_more, told_sizes, unusable_at, usable_over}
 use Rattle.ldp_bound.proofs.sizes.told.Goals as goal
 

@@ -5,7 +5,7 @@ use Rattle.ldp_num.specs.Steps.{most_steps}
 use Rattle.ldp_distortion.specs.Inputs.{numbers}
 use Rattle.ldp_problem.specs.Costs.{at_cells}
 use Rattle.ldp_bound.specs.Kept.{size_from}
-use Rattle.ldp_bound.specs.Tally.{tally_of}
+use Rattle.ldp_bound.specs.Summary.{tally_of}
 use Rattle.ldp_bound.proofs.Loops.{told_sizes}
 use Rattle.ldp_bound.proofs.sizes.told.Given as goal
 

@@ -43,11 +43,11 @@ loop-number-preserved c =
           c.loop-number.invariant.tally;
     }
 
-pub returns : goal.returns
-returns c = λ fits.
+pub returns-clause-value : goal.returns-clause-value
+returns-clause-value c = λ fits.
     let test = test_of c.args.region.now in
     let grid = c.args.heights.now in
     let end : c.loop-number.number ≡ grid.rows = omega arith in
     let all = ap (λ n. n * grid.cols) end ∙ mul_comm grid.rows grid.cols in
     let P : ℕ → Type 0 = λ place. IsTally test grid place c.loop-number.tally in
-    c.finish.ensures test grid (subst P all c.loop-number.invariant.tally)
+    c.finish.ensures.value test grid (subst P all c.loop-number.invariant.tally)

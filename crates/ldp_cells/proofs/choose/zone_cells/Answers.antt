@@ -9,8 +9,8 @@ cells_where-requires-clause-near c =
     zone_near c.args.zone.now c.in_ok-edges.edges.items c.in_ok-edges.ensures.value
     c.in_ok-edges.ensures.keeps
 
-pub returns : goal.returns
-returns c = λ fits.
+pub returns-clause-value : goal.returns-clause-value
+returns-clause-value c = λ fits.
     let same = zone_test c.args.zone.now c.in_ok-edges.edges.items c.in_ok-edges.ensures.value in
-    c.cells_where.ensures fits
+    c.cells_where.ensures.value fits
     ∙ ap (λ (test : Point → Bool). cells_where test c.args.heights.now) same

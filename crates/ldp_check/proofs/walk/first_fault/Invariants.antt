@@ -1,6 +1,7 @@
 use Rattle.std.proofs.Common.{◌≡◌, ◌+◌, length, drop}
 use Rattle.ldp_design.specs.Forests.{start}
-use Rattle.ldp_check.specs.Entries.{first_fault, IsPlace}
+use Rattle.ldp_check.specs.Entries.{first_fault}
+use Rattle.ldp_check.specs.Walks.{IsPlace}
 use Rattle.ldp_check.specs.Stacks.{place}
 use Rattle.ldp_check.proofs.walk.first_fault.Given as goal
 

@@ -11,7 +11,7 @@ returns-clause-found g c = λ done.
     c.words.view_is
     (told_found _ _ c.in_ok-problem.problem c.in_ok-cells.cells c.in_ok-design_over.field-0
     c.in_ok-problem.ensures.told c.in_ok-cells.ensures.cells
-    (subst (λ limits. design_over c.in_ok-cells.cells c.in_ok-problem.problem.grids
+    (subst (λ limits. design_over c.in_ok-cells.cells c.in_ok-problem.problem.grids.families
     c.in_ok-problem.problem.names limits.budget (option_map unsigned_abs limits.tolerance)
     ≡ Ok c.in_ok-design_over.field-0)
     (c.limits-limits.ensures.value ∙ ap (λ words. words.limits) (sym c.words.view_is))

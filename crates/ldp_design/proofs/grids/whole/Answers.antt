@@ -9,5 +9,5 @@ returns-clause-whole c =
       c.whole_span-3.ensures,
       c.whole_span-4.ensures,
     )
-    (whole_found c.args.grids.now c.args.f c.family-family.result.now
+    (whole_found c.args.grids.now.families c.args.f c.family-family.result.now
     c.family-family.ensures.valid c.family-family.ensures.value)

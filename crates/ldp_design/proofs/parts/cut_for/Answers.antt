@@ -9,7 +9,7 @@ returns-clause-single c =
 pub returns-clause-within : goal.returns-clause-within
 returns-clause-within c =
     let box =
-    box_of c.args.grids.now c.args.b.now c.family.result.now c.requires
+    box_of c.args.grids.now.families c.args.b.now c.family.result.now c.requires
     c.family.ensures.value in
     cut_for_within c.family.result.now c.args.b.now c.family_cut.result c.family.ensures.valid box
     c.family_cut.ensures

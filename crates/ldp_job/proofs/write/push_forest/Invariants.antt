@@ -1,6 +1,6 @@
 use Rattle.std.proofs.Common.{◌≡◌, ◌++◌, map, take}
 use Rattle.ldp_job.specs.Texts.{entry_words}
-use Rattle.ldp_job.specs.Pushed.{lines_text}
+use Rattle.ldp_spelling.specs.Texts.{lines_text}
 use Rattle.ldp_job.proofs.write.push_forest.Given as goal
 
 abbrev pub invariant-loop-i : goal.invariant-loop-i

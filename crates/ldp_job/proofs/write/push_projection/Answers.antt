@@ -3,8 +3,7 @@ use Rattle.std.proofs.Common.{arith}
 use Rattle.std.specs.Int.{w128}
 use Rattle.std.proofs.lemmas.Int.{ints}
 use Rattle.ldp_decimal.specs.Writing.{trimmed_text}
-use Rattle.ldp_job.specs.Texts.{kind_text}
-use Rattle.ldp_job.specs.Pushed.{line_text}
+use Rattle.ldp_spelling.specs.Texts.{line_text}
 use Rattle.ldp_job.proofs.Plain.{abs_below}
 use Rattle.ldp_job.proofs.Pushes.{five, on_ok, held}
 use Rattle.ldp_job.proofs.write.push_projection.Goals as goal
@@ -32,16 +31,13 @@ returns c =
     let scale : to_z w128 (of_z w128 r.scale) ≡ r.scale =
     held r.scale (omega (arith, ints, c.requires.scale.0, c.requires.scale.1)) in
     let t0 : List ℕ = c.args.text.now in
-    let t1 : List ℕ = c.push_named.new.text in
+    let t1 : List ℕ = c.push_kind.new.text in
     let t2 : List ℕ = c.push_trimmed.new.text in
     let t3 : List ℕ = c.push_trimmed-2.new.text in
     let t4 : List ℕ = c.push_trimmed-3.new.text in
     let t5 : List ℕ = c.push_trimmed-4.new.text in
-    let kind : t1 ≡ t0 ++ line_text (codes "kind" ∷ kind_text r.kind ∷ []) =
-    c.in_ok-push_named.ensures
-    ∙ ap (λ w. t0 ++ line_text (codes "kind" ∷ w ∷ [])) c.kind_text.ensures in
     on_ok c.push_trimmed-4.result _ _
-    (λ h. five t0 t1 t2 t3 t4 t5 _ _ _ _ _ kind
+    (λ h. five t0 t1 t2 t3 t4 t5 _ _ _ _ _ c.in_ok-push_kind.ensures
     (line_held t1 t2 (codes "lat") 12 _ r.lat lat c.in_ok-push_trimmed.ensures)
     (line_held t2 t3 (codes "lon") 12 _ r.lon lon c.in_ok-push_trimmed-2.ensures)
     (line_held t3 t4 (codes "azimuth") 12 _ r.azimuth azimuth c.in_ok-push_trimmed-3.ensures)

@@ -1,9 +1,10 @@
 use Rattle.std.proofs.Common.{◌≡◌, ◌++◌, to_z, of_z, ap, ◌∙◌, arith}
 use Rattle.std.specs.Int.{w128}
-use Rattle.ldp_spelling.specs.Numbers.{limit}
+use Rattle.ldp_num.specs.Number.{limit}
 use Rattle.ldp_job.specs.declared.job.Job.{Job}
 use Rattle.ldp_job.specs.Texts.{version_words, names_words, design_words, worst_words, forest_words}
-use Rattle.ldp_job.specs.Pushed.{line_text, lines_text, projection_words, cell_words}
+use Rattle.ldp_spelling.specs.Texts.{line_text, lines_text}
+use Rattle.ldp_job.specs.Pushed.{projection_words, cell_words}
 use Rattle.ldp_job.proofs.Plain.{abs_most}
 use Rattle.ldp_job.proofs.Pushes.{seven, parts_text, held}
 use Rattle.ldp_job.proofs.write.write_job.Goals as goal

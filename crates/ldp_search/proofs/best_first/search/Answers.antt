@@ -6,7 +6,7 @@ use Rattle.ldp_search.proofs.best_first.search.Goals as goal
 
 pub returns-in_default-clause-none : goal.returns-in_default-clause-none
 returns-in_default-clause-none g c =
-    (λ nodes d e a u. none_usable _ c.args.grids.now c.explore.new.state d
+    (λ nodes d e a u. none_usable _ c.args.grids.now.families c.explore.new.state d
     c.in_ok-explore.ensures.done
     c.in_default.is c.requires.grids a u)
 
@@ -19,13 +19,13 @@ pub returns-clause-smallest : goal.returns-clause-smallest
 returns-clause-smallest g c =
     rw c.found.ensures (smallest_found _ c.explore.new.state c.in-Some.best
     c.in_ok-explore.ensures.done c.in-Some.is
-    c.args.grids.now c.requires.grids)
+    c.args.grids.now.families c.requires.grids)
 
 pub returns-clause-first : goal.returns-clause-first
 returns-clause-first g c =
     rw c.found.ensures (first_found _ c.explore.new.state c.in-Some.best
     c.in_ok-explore.ensures.done c.in-Some.is
-    c.args.grids.now c.requires.grids)
+    c.args.grids.now.families c.requires.grids)
 
 pub returns-clause-shape : goal.returns-clause-shape
 returns-clause-shape g c =

@@ -11,7 +11,7 @@ returns-in_err-evaluate-clause-fault g c =
     rw (p.1, p.2) (subst (λ q. IsStop q c.args.budget c.in_err-evaluate.field-0.0)
     c.loop-index.invariant.same
     (c.in_err-evaluate.ensures.fault (c.loop-index.index + 1) []
-    (whole_waiting _ c.args.grids.now c.loop-index.index c.whole.result c.loop-index.state
+    (whole_waiting _ c.args.grids.now.families c.loop-index.index c.whole.result c.loop-index.state
     (ap (λ q. q.families) c.loop-index.invariant.same ∙ c.requires.grids) c.whole.ensures.value
     c.loop-index.invariant.explored)))
 
@@ -20,7 +20,8 @@ loop-index-preserved g c = record {
   explored = subst (λ q. IsExplored q (c.loop-index.index + 1) [] c.evaluate.new.state)
       (sym c.in_ok-evaluate.ensures.same)
       (c.in_ok-evaluate.ensures.next (c.loop-index.index + 1) []
-      (whole_waiting _ c.args.grids.now c.loop-index.index c.whole.result c.loop-index.state
+      (whole_waiting _ c.args.grids.now.families c.loop-index.index c.whole.result
+      c.loop-index.state
       (ap (λ q. q.families) c.loop-index.invariant.same ∙ c.requires.grids) c.whole.ensures.value
       c.loop-index.invariant.explored));
   within = c.in_ok-evaluate.ensures.within;

@@ -8,7 +8,8 @@ pub returns-in_err-evaluate-clause-fault : goal.returns-in_err-evaluate-clause-f
 returns-in_err-evaluate-clause-fault g c =
     let p = err_from_is_err_and c.from_residual.result c.from_residual.ensures.1 in
     rw (p.1, p.2) (c.in_err-evaluate.ensures.fault _ (c.in-Some.high ∷ [])
-    (parts_waiting _ c.args.grids.now c.args.b.now c.args.state.now c.split.result c.in-Some.low
+    (parts_waiting _ c.args.grids.now.families c.args.b.now c.args.state.now c.split.result
+    c.in-Some.low
     c.in-Some.high
     c.requires.ready c.requires.grids c.split.ensures.value c.in-Some.is))
 
@@ -22,7 +23,8 @@ returns-in_err-evaluate-2-clause-fault g c =
     (second_waiting _ _ c.in-Some.low c.in-Some.high c.args.state.now c.evaluate.new.state
     c.in_ok-evaluate.ensures.same
     c.in_ok-evaluate.ensures.next
-    (parts_waiting _ c.args.grids.now c.args.b.now c.args.state.now c.split.result c.in-Some.low
+    (parts_waiting _ c.args.grids.now.families c.args.b.now c.args.state.now c.split.result
+    c.in-Some.low
     c.in-Some.high
     c.requires.ready c.requires.grids c.split.ensures.value c.in-Some.is))))
 
@@ -33,6 +35,7 @@ returns-in_ok-evaluate-2-clause-next g c =
     (second_waiting _ _ c.in-Some.low c.in-Some.high c.args.state.now c.evaluate.new.state
     c.in_ok-evaluate.ensures.same
     c.in_ok-evaluate.ensures.next
-    (parts_waiting _ c.args.grids.now c.args.b.now c.args.state.now c.split.result c.in-Some.low
+    (parts_waiting _ c.args.grids.now.families c.args.b.now c.args.state.now c.split.result
+    c.in-Some.low
     c.in-Some.high
     c.requires.ready c.requires.grids c.split.ensures.value c.in-Some.is)))

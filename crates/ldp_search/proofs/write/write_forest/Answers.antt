@@ -27,7 +27,7 @@ returns-in_err-write_tree-clause-asked g c =
       arith,
       asked,
       c.loop-index.invariant.asked,
-      next_counted p c.args.grids.now c.loop-index.index c.whole.result
+      next_counted p c.args.grids.now.families c.loop-index.index c.whole.result
           c.push-in-loop-index.new.self c.requires.grids c.whole.ensures.value stack,
       some_counted p (c.loop-index.index + 1),
     )
@@ -42,7 +42,7 @@ loop-index-preserved g c =
     c.loop-index.bounds + nodes_of_all q c.push-in-loop-index.new.self)
     same c.in_ok-write_tree.ensures.asked in
     record {
-      trees = next_written p c.args.grids.now c.loop-index.index c.whole.result
+      trees = next_written p c.args.grids.now.families c.loop-index.index c.whole.result
           c.push-in-loop-index.new.self
           c.loop-index.forest c.push.new.self c.write_tree.new.forest
           c.requires.grids c.whole.ensures.value stack c.loop-index.invariant.trees
@@ -55,16 +55,16 @@ loop-index-preserved g c =
         arith,
         asked,
         c.loop-index.invariant.asked,
-        next_counted p c.args.grids.now c.loop-index.index c.whole.result
+        next_counted p c.args.grids.now.families c.loop-index.index c.whole.result
             c.push-in-loop-index.new.self c.requires.grids c.whole.ensures.value stack,
       );
     }
 
 pub returns-clause-forest : goal.returns-clause-forest
 returns-clause-forest g c =
-    let last : c.loop-index.index ≡ length c.args.grids.now = omega arith in
+    let last : c.loop-index.index ≡ length c.args.grids.now.families = omega arith in
     c.loop-index.invariant.trees ∙ all_written (g.B.Bounds.problem c.args.bounds.now)
-    c.args.grids.now c.loop-index.index c.requires.grids last
+    c.args.grids.now.families c.loop-index.index c.requires.grids last
 
 pub returns-clause-asked : goal.returns-clause-asked
 returns-clause-asked g c =

@@ -8,7 +8,8 @@ use Rattle.ldp_search.proofs.write.write_tree.Goals as goal
 
 pub write_box-requires-clause-lies : goal.write_box-requires-clause-lies
 write_box-requires-clause-lies g c =
-    next_lies (g.B.Bounds.problem c.args.bounds.now) c.args.grids.now c.in-Some.b c.loop-b.stack
+    next_lies (g.B.Bounds.problem c.args.bounds.now) c.args.grids.now.families c.in-Some.b
+    c.loop-b.stack
     c.pop.new.self
     c.requires.families c.in-Some.ensures.some c.loop-b.invariant.lies
 

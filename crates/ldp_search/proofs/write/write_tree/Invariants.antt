@@ -1,5 +1,5 @@
 use Rattle.std.proofs.Common.{◌≡◌, ◌+◌, ◌≤◌, ◌++◌}
-use Rattle.ldp_design.specs.Boxes.{AllLieIn}
+use Rattle.ldp_design.specs.Laws.{AllLieIn}
 use Rattle.ldp_search.specs.Explored.{nodes_of_all}
 use Rattle.ldp_search.specs.Written.{trees_of}
 use Rattle.ldp_search.proofs.write.write_tree.Given as goal

@@ -1,6 +1,6 @@
 use Rattle.std.proofs.Common.{◌≡◌, ◌≤◌, ◌+◌, ◌-◌, sym, ap, refl, subst, ◌∙◌, arith}
 use Rattle.std.proofs.lemmas.Option.{IfSome_then}
-use Rattle.ldp_sweep.specs.declared.node.Node.{Node}
+use Rattle.ldp_sweep.specs.declared.stretch.Stretch.{Stretch}
 use Rattle.ldp_sweep.specs.declared.tally.Tally.{Tally}
 use Rattle.ldp_sweep.specs.Cut.{Cut, IsNode, start}
 use Rattle.ldp_sweep.specs.Tally.{number_at}
@@ -17,7 +17,7 @@ passed-requires g c =
 pub overflow_add-tally : goal.overflow_add-tally
 overflow_add-tally g c =
     let cut : Cut = g.S.Sweep.cut c.args.sweep.now in
-    let node : Node = c.node_at-node.result in
+    let node : Stretch = c.node_at-node.result in
     let from : start cut.cells cut.nodes c.args.height ≡ node.from =
     start_above cut.cells cut.nodes c.args.height node c.requires.some c.node_at-node.ensures in
     let known : IsTally cut c.args.tolerance node.from c.args.tally.now =
@@ -45,7 +45,7 @@ returns-in-Some-clause-left g c =
 pub returns-in-Some-clause-tally : goal.returns-in-Some-clause-tally
 returns-in-Some-clause-tally g c =
     let cut : Cut = g.S.Sweep.cut c.args.sweep.now in
-    let node : Node = c.node_at-node.result in
+    let node : Stretch = c.node_at-node.result in
     let from : start cut.cells cut.nodes c.args.height ≡ node.from =
     start_above cut.cells cut.nodes c.args.height node c.requires.some c.node_at-node.ensures in
     let known : IsTally cut c.args.tolerance node.from c.args.tally.now =
@@ -67,7 +67,7 @@ returns-in-Some-clause-tally g c =
 pub returns-then-node-at-clause-tally : goal.returns-then-node-at-clause-tally
 returns-then-node-at-clause-tally g c =
     let cut : Cut = g.S.Sweep.cut c.args.sweep.now in
-    let node : Node = c.node_at-node.result in
+    let node : Stretch = c.node_at-node.result in
     let from : start cut.cells cut.nodes c.args.height ≡ node.from =
     start_above cut.cells cut.nodes c.args.height node c.requires.some c.node_at-node.ensures in
     let parts : start cut.cells cut.nodes (c.args.height - 1) ≡ node.from =
@@ -87,7 +87,7 @@ look_at-requires-clause-inside g c =
 pub look_at-requires-clause-tally : goal.look_at-requires-clause-tally
 look_at-requires-clause-tally g c =
     let cut : Cut = g.S.Sweep.cut c.args.sweep.now in
-    let node : Node = c.node_at-node.result in
+    let node : Stretch = c.node_at-node.result in
     let from : start cut.cells cut.nodes c.args.height ≡ node.from =
     start_above cut.cells cut.nodes c.args.height node c.requires.some c.node_at-node.ensures in
     subst (λ (now : Cut). IsTally now c.args.tolerance node.from c.args.tally.now)
@@ -97,7 +97,7 @@ look_at-requires-clause-tally g c =
 pub returns-clause-tally : goal.returns-clause-tally
 returns-clause-tally g c =
     let cut : Cut = g.S.Sweep.cut c.args.sweep.now in
-    let node : Node = c.node_at-node.result in
+    let node : Stretch = c.node_at-node.result in
     let known : IsNode cut.cells cut.nodes (c.args.height - 1) node =
     c.requires.cut.each (c.args.height - 1) node c.node_at-node.ensures in
     let here : c.args.height - 1 ≡ node.skip =

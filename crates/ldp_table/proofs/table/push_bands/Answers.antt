@@ -2,7 +2,8 @@ use Rattle.std.proofs.Common.{◌≡◌, ◌++◌, ◌∷◌, [], length, get_or
 use Rattle.std.proofs.Common.{◌<◌}
 use Rattle.ldp_table.specs.Bands.{edges}
 use Rattle.ldp_table.specs.Texts.{bands_words, band_words, over_words}
-use Rattle.ldp_table.proofs.Lined.{on_ok, line_more, band_more, bands_end}
+use Rattle.ldp_spelling.proofs.Texts.{line_more}
+use Rattle.ldp_table.proofs.Lined.{on_ok, band_more, bands_end}
 use Rattle.ldp_table.proofs.table.push_bands.Goals as goal
 
 pub loop-band-preserved : goal.loop-band-preserved

@@ -21,7 +21,7 @@ returns c =
     c.from.ensures ∙ height_held row c.requires in
     on_ok c.push.result _ _
     (λ h. row_is c.args.text.now c.push_place.new.text c.push_trimmed.new.text
-    c.push_trimmed-2.new.text c.push_trimmed-3.new.text c.push_ppm.new.text c.push.new.self
+    c.push_trimmed-2.new.text c.push_trimmed-3.new.text c.push_fixed.new.text c.push.new.self
     (decimal row.cell.row) (decimal row.cell.col) (trimmed_text 12 row.cell.y)
     (trimmed_text 12 row.cell.x) (trimmed_text 3 row.cell.mm) (ppm_text row.distortion)
     c.in_ok-push_place.ensures
@@ -32,5 +32,5 @@ returns c =
     (word_held _ _ (trimmed_text 3) _ row.cell.mm
     (kept _ _ height (small_height row c.requires).held) c.in_ok-push_trimmed-3.ensures)
     (word_held _ _ ppm_text _ row.distortion
-    (small_number row.distortion c.requires.distortion).held c.in_ok-push_ppm.ensures) h)
+    (small_number row.distortion c.requires.distortion).held c.in_ok-push_fixed.ensures) h)
     c.push.ensures.ok

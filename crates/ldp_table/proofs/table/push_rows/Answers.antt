@@ -1,4 +1,5 @@
-use Rattle.ldp_table.proofs.Lined.{line_more, row_more}
+use Rattle.ldp_spelling.proofs.Texts.{line_more}
+use Rattle.ldp_table.proofs.Lined.{row_more}
 use Rattle.ldp_table.proofs.table.push_rows.Goals as goal
 
 pub loop-row-preserved : goal.loop-row-preserved

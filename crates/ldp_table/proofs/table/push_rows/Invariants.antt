@@ -1,5 +1,6 @@
 use Rattle.std.proofs.Common.{◌≡◌, ◌++◌, map, take}
-use Rattle.ldp_table.specs.Texts.{row_words, lines_text}
+use Rattle.ldp_spelling.specs.Texts.{lines_text}
+use Rattle.ldp_table.specs.Texts.{row_words}
 use Rattle.ldp_table.proofs.table.push_rows.Given as goal
 
 abbrev pub invariant-loop-row : goal.invariant-loop-row

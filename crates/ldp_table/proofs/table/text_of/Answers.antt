@@ -1,7 +1,8 @@
 use Rattle.std.proofs.Common.{◌≡◌, ◌++◌, ℕ, List, length, map, ap, ◌∙◌}
 use Rattle.ldp_table.specs.declared.row.Row.{Row}
 use Rattle.ldp_table.specs.Bands.{edges, counts_of}
-use Rattle.ldp_table.specs.Texts.{row_words, cells_words, bands_words, lines_text, table_text}
+use Rattle.ldp_spelling.specs.Texts.{lines_text}
+use Rattle.ldp_table.specs.Texts.{row_words, cells_words, bands_words, table_text}
 use Rattle.ldp_table.proofs.Lined.{table_is}
 use Rattle.ldp_table.proofs.table.text_of.Goals as goal
 

@@ -3,9 +3,9 @@ use Rattle.std.proofs.Common.{arith, subst}
 use Rattle.std.specs.Int.{w128}
 use Rattle.std.proofs.lemmas.Int.{ints, to_z-of_z, fits_signed_from_abs}
 use Rattle.ldp_decimal.specs.Writing.{trimmed_text}
-use Rattle.ldp_grids.specs.declared.fault.Key.{Key}
-use Rattle.ldp_grids.specs.declared.range.Range.{Range}
-use Rattle.ldp_grids.specs.Ranges.{range_of}
+use Rattle.ldp_design.specs.declared.key.Key.{Key}
+use Rattle.ldp_design.specs.declared.key_range.KeyRange.{KeyRange}
+use Rattle.ldp_design.specs.KeyRanges.{range_of}
 use Rattle.ldp_wkt2.specs.Lines.{number_text}
 use Rattle.ldp_wkt2.specs.Profile.{row_of}
 use Rattle.ldp_wkt2.specs.Values.{value_of}
@@ -38,7 +38,7 @@ returns c =
     (small_value c.key-key.result c.args.crs.now c.requires) in
     let places : c.range_of.result.places
     ≡ (range_of (row_of c.args.parameter).key c.args.crs.now.kind).places =
-    ap (λ (range : Range). range.places) c.range_of.ensures
+    ap (λ (range : KeyRange). range.places) c.range_of.ensures
     ∙ ap (λ (key : Key). (range_of key c.args.crs.now.kind).places) c.key-key.ensures in
     let value : to_z w128 (of_z w128 c.value_of.result)
     ≡ value_of (row_of c.args.parameter).key c.args.crs.now =

@@ -1,3 +1,4 @@
+use Rattle.ldp_num.specs.Steps.{most_inputs}
 use Rattle.std.proofs.Common.{◌≤◌, sym, subst}
 use Rattle.ldp_num.specs.Steps.{most_steps}
 use Rattle.ldp_distortion.specs.Prepared.{PreparedCells, HasRoom}
@@ -12,7 +13,7 @@ returns-clause-ready c = record {
       (sym c.in_ok-cells.ensures);
   room = subst (λ (p : PreparedCells). HasRoom p.lists most_steps) c.prepared.ensures
       c.lists.ensures.room;
-  inputs = subst (λ (p : PreparedCells). p.lists.joint.inputs ≤ 16) c.prepared.ensures
-      (subst (λ (lists : _). lists.joint.inputs ≤ 16) c.lists.ensures.lists
+  inputs = subst (λ (p : PreparedCells). p.lists.joint.inputs ≤ most_inputs) c.prepared.ensures
+      (subst (λ (lists : _). lists.joint.inputs ≤ most_inputs) c.lists.ensures.lists
       c.inputs-inputs.ensures.few);
 }

@@ -7,4 +7,4 @@ pub returns-clause-value : goal.returns-clause-value
 returns-clause-value c =
     let kept = c.args.self.now.kept in
     c.cost_by_stretches-cost.ensures.value
-    ∙ cost_told (kept_problem kept.grids kept.kinds kept.count kept.tolerance) c.args.d.now
+    ∙ cost_told (kept_problem kept.grids.families kept.kinds kept.count kept.tolerance) c.args.d.now

@@ -39,7 +39,11 @@ invariant_of-self-in-Some c =
           rw (w.self-inside-is, items)
           (kept_more inside.cells.items inside.count inside.missing cell c.self.invariant
           w.if-self-lt-MOST_CELLS.true
-          (record { near = c.requires.near; height = range }))
+          (record {
+            near = c.requires.near;
+            height = (omega (arith, ints, range.0), omega (arith, ints, range.1));
+          })
+          range)
       | else-self-lt-MOST_CELLS w ↦ rw w.self-inside-is
           (kept_past inside.cells.items inside.count inside.missing c.self.invariant)
     ]

@@ -1,14 +1,15 @@
-use Rattle.std.proofs.Common.{◌≡◌, ◌+◌, ◌*◌, ◌++◌, [], ◌∷◌, length, arith, ap, sym, ◌∙◌}
+use Rattle.std.proofs.Common.{◌≡◌, ◌+◌, ◌*◌, ◌++◌, [], ◌∷◌, length, map, arith, ap, subst, sym, ◌∙◌}
 use Rattle.std.specs.Prelude.{if◌then◌else◌, Some, None}
 use Rattle.std.proofs.lemmas.List.{length-append, length-map, length-take, length_push}
 use Rattle.std.proofs.lemmas.List.Elements.{All-append}
 use Rattle.ldp_num.specs.Number.{IsNumber}
 use Rattle.ldp_num.specs.declared.fix.Fix.{Fix}
-use Rattle.ldp_num.specs.StepList.{value}
+use Rattle.ldp_num.specs.StepList.{StepList, value, value_in}
+use Rattle.ldp_num.specs.Written.{written, plain_out}
 use Rattle.ldp_distortion.specs.Inputs.{numbers}
 use Rattle.ldp_distortion.specs.Distortion.{cell_results}
 use Rattle.ldp_distortion.proofs.Rows.{rows_more, full_rows}
-use Rattle.ldp_distortion.proofs.Runs.{numbers_all}
+use Rattle.ldp_distortion.proofs.Runs.{numbers_all, run_numbers}
 use Rattle.ldp_distortion.proofs.table.Table.over.Goals as goal
 
 pub loop-cell-preserved : goal.loop-cell-preserved
@@ -23,7 +24,14 @@ loop-cell-preserved c =
     omega (arith, length-take {A = Fix}) in
     let is_row : cell_results c.args.list.now c.get.result
     ≡ (if c.run_into.result then Some row else None) =
-    ap (value c.args.list.now) (sym c.cell_inputs-inputs.ensures) ∙ c.run_into.ensures.value in
+    ap (value c.args.list.now) (sym c.cell_inputs-inputs.ensures)
+    ∙ run_numbers c.args.list.now c.cell_inputs-inputs.result c.run_into.result
+    c.run_into.new.results
+    (subst (λ (list : StepList).
+    value_in (written 0) list (map (λ one. plain_out one.n) c.cell_inputs-inputs.result)
+    ≡ (if c.run_into.result
+    then Some (map (λ one. plain_out one.n) c.run_into.new.results) else None))
+    so_far.list c.run_into.ensures.value) in
     let flags : c.push.new.self.items ≡ c.loop-cell.defined.items ++ c.run_into.result ∷ [] =
     c.in_ok-push.ensures.items in
     let flagged : length (c.loop-cell.defined.items ++ c.run_into.result ∷ [])
@@ -35,7 +43,7 @@ loop-cell-preserved c =
     + length row =
     length-append c.loop-cell.numbers.items row in
     record {
-      ready = c.run_into.ensures.ready;
+      list = c.run_into.ensures.list ∙ so_far.list;
       count = ap length flags ∙ flagged ∙ ap (λ n. n + 1) so_far.count;
       full = ap length all ∙ omega arith;
       in_range = rw all

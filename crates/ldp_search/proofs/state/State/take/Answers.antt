@@ -15,7 +15,7 @@ returns-in-Unusable-clause-next c =
 pub returns-then-is_single-clause-next : goal.returns-then-is_single-clause-next
 returns-then-is_single-clause-next c =
     let fits : SFits w128 c.in-Low.value = search rules in
-    (λ p e. rw (c.better_of.ensures, c.design_of.ensures, to_z-of_z w128 c.in-Low.value fits)
+    (λ p e. rw (c.better_of.ensures, c.first.ensures.value, to_z-of_z w128 c.in-Low.value fits)
     (taken_single p c.args.b.now c.in-Low.over c.in-Low.value c.in-Low.cell c.args.self.now
     (sym c.in-Low.is ∙ e) (sym c.if-is_single.ensures.value)))
 

@@ -1,7 +1,7 @@
 use Rattle.std.proofs.Common.{[], ◌∷◌, get_or, length, arith, ap}
 use Rattle.std.proofs.lemmas.List.{length-append}
 use Rattle.std.proofs.lemmas.Option.{slice_get-get_or}
-use Rattle.ldp_sweep.specs.declared.node.Node.{Node}
+use Rattle.ldp_sweep.specs.declared.stretch.Stretch.{Stretch}
 use Rattle.ldp_stretch.specs.Hulls.{width_of}
 use Rattle.ldp_stretch.proofs.Columns.{hulls_more, node_inside}
 use Rattle.ldp_stretch.proofs.stretches.Stretches.new.Goals as goal
@@ -15,7 +15,7 @@ push_hull-requires c =
 pub loop-node-preserved : goal.loop-node-preserved
 loop-node-preserved c =
     let so_far = c.loop-node.invariant in
-    let none : Node = record { from = 0; to = 0; skip = 0 } in
+    let none : Stretch = record { from = 0; to = 0; skip = 0 } in
     let nodes = c.deref-node-items.result.now in
     let found = c.in_ok-push_hull.field-0 in
     record {
