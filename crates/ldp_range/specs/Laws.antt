@@ -60,6 +60,11 @@ abbrev pub Following : Type 0 → Type 0 → Type 0
 Following A B = (R : A → B → Bool) (f : Ops A) (g : Ops B)
     → Follows (λ a b. IsTrue (R a b)) f g → ValuesFollow (λ a b. IsTrue (R a b)) f g
 
+-- the same of the results of all steps
+abbrev pub StepFollowing : Type 0 → Type 0 → Type 0
+StepFollowing A B = (R : A → B → Bool) (f : Ops A) (g : Ops B)
+    → Follows (λ a b. IsTrue (R a b)) f g → ResultsFollow (λ a b. IsTrue (R a b)) f g
+
 -- the hull holds what either range holds
 abbrev pub HullHolds : Type 0
 HullHolds = (n : ℤ) (a b : ℤ × ℤ) → LiesIn n a ⊎ LiesIn n b → LiesIn n (pair_hull a b)

@@ -1,6 +1,6 @@
 //! The laws of ranges, for a formula as a whole, and for a range.
 ghost use Rattle.ldp_range.specs.Laws.{Inclusion, StepInclusion, Sharpness, StepSharpness};
-ghost use Rattle.ldp_range.specs.Laws.{OperationsHold, Following};
+ghost use Rattle.ldp_range.specs.Laws.{OperationsHold, Following, StepFollowing};
 ghost use Rattle.ldp_range.specs.Laws.{Isotony, StepIsotony, TwinInclusion, StepTwinInclusion};
 ghost use Rattle.ldp_range.specs.Laws.{TwinMost, TwinFewest, OwnTwin, TwinOfNumbers};
 ghost use Rattle.ldp_range.specs.Laws.{HullHolds, AbsoluteBounds, LeastIsNatural, AbsoluteOfOne};
@@ -44,7 +44,8 @@ pub fn twins()
 
 /// Two runs of one list, over values that are related step by step.
 pub fn following<A, B>()
-    ensures { Following A B }
+    ensures value { Following A B }
+    ensures steps { StepFollowing A B }
 {}
 
 /// The hull holds both ranges.
