@@ -1,4 +1,4 @@
-ghost use Rattle.std.specs.Prelude.{IfOk};
+ghost use Rattle.std.specs.Prelude.{◌≡◌, IfOk};
 ghost use Rattle.ldp_series.specs.Shape.{HasShape};
 
 use crate::say::say_some;
@@ -14,17 +14,19 @@ pub fn cut_runs(rt: &(impl Print + AllocGlobal), rest: &str) -> Result<()> {
     let list = hypotenuse(rt.alloc())?;
     let mut runs = CutRuns::new(rt.alloc(), &list, 1)?;
     let (three, four) = (Fix::constant(3 * ONE), Fix::constant(4 * ONE));
-    for inputs in &[
-        [three, first],
-        [three, second],
-        [four, third],
-        [four, fourth],
-    ] {
-        let mut results = [Fix::constant(0)];
-        let defined = runs.run_into(inputs, &mut results);
-        say_some(rt, if defined { Some(results[0].n) } else { None })?;
-    }
-    Ok(())
+    say_root(rt, &mut runs, &[three, first])?;
+    say_root(rt, &mut runs, &[three, second])?;
+    say_root(rt, &mut runs, &[four, third])?;
+    say_root(rt, &mut runs, &[four, fourth])
+}
+
+fn say_root(rt: &impl Print, runs: &mut CutRuns<Fix>, inputs: &[Fix; 2]) -> Result<()>
+    requires { HasShape 2 1 runs.old }
+    ensures { runs.new ≡ runs.old }
+{
+    let mut results = [Fix::constant(0)];
+    let defined = runs.run_into(inputs, &mut results);
+    say_some(rt, if defined { Some(results[0].n) } else { None })
 }
 
 fn hypotenuse(alloc: Global) -> Result<List, Memory>
