@@ -1,5 +1,12 @@
-ghost use Rattle.std.specs.Prelude.{◌≡◌, ◌<◌, length, true, is_some, IfOk, IfSome, option_map};
+ghost use Rattle.std.specs.Prelude.{◌≡◌, ◌≤◌, ◌<◌, length, true, is_some, IfOk, IfSome, option_map};
 ghost use Rattle.std.specs.Prelude.{unsigned_abs};
+ghost use Rattle.ldp_num.specs.Number.{limit};
+ghost use Rattle.ldp_design.specs.Boxes.{LiesIn};
+ghost use Rattle.ldp_design.specs.Designs.{IsAdmitted};
+ghost use Rattle.ldp_problem.specs.Costs.{at_cells};
+ghost use Rattle.ldp_bound.specs.Kept.{kept_delta, kept_lower};
+ghost use Rattle.ldp_bound.specs.Plain.{HasNumber};
+ghost use Rattle.ldp_bound.specs.Summary.{cost_over, tally_of};
 
 use crate::Memory;
 use crate::benches::Benches;
@@ -8,7 +15,7 @@ use crate::kept::Kept;
 use crate::lows::{low, lows_by_stretches};
 use crate::single::bound_of_single;
 use crate::sizes::{cost_by_stretches, size};
-use crate::summary::signed;
+use crate::summary::{Summary, signed};
 use crate::tolerance::{signed_units, units};
 use ldp_cells::Cells;
 use ldp_design::{Design, DesignBox, Grids, is_single};
@@ -77,21 +84,16 @@ impl Bounds for Plain {
 
     fn bound(&mut self, b: &DesignBox) -> Bound {
         self.asked = self.asked.saturating_add(1);
-        let Some(benches) = self.benches.take() else {
-            unreachable!();
-        };
         if is_single(b) {
-            let (cost, benches) = cost_by_stretches(
+            let cost = cost_in(
                 &self.kept,
-                benches,
+                &mut self.benches,
                 self.hints.cells(),
                 &b.first(),
             );
-            self.benches = Some(benches);
             return bound_of_single(cost);
         }
-        let (lows, benches) = lows_by_stretches(&self.kept, benches, self.hints.cells(), b);
-        self.benches = Some(benches);
+        let lows = lows_in(&self.kept, &mut self.benches, self.hints.cells(), b);
         self.hints.add(lows.cell);
         lows.bound()
     }
@@ -125,12 +127,7 @@ impl Bounds for Plain {
             ≡ count_up (⟦<Plain as Bounds>⟧.times self.old) }
     {
         self.asked = self.asked.saturating_add(1);
-        let Some(benches) = self.benches.take() else {
-            unreachable!();
-        };
-        let (cost, benches) = cost_by_stretches(&self.kept, benches, self.hints.cells(), d);
-        self.benches = Some(benches);
-        cost
+        cost_in(&self.kept, &mut self.benches, self.hints.cells(), d)
     }
 
     fn asked(&self) -> u64 {
@@ -138,4 +135,38 @@ impl Bounds for Plain {
     }
 
     ghost sound = { λ plain. plain.kept.sound };
+}
+
+/// The cost of a design, with the benches taken out and put back.
+fn cost_in(kept: &Kept, place: &mut Option<Benches>, hints: &[u32], d: &Design) -> Cost
+    requires there { is_some place.old ≡ true }
+    requires admitted { IsAdmitted kept.now.grids.families d.now }
+    ensures value { result ≡ cost_over kept.now.tolerance
+        (kept_delta kept.now.grids.families kept.now.kinds d.now) kept.now.count }
+    ensures number { HasNumber result }
+    ensures there { is_some place.new ≡ true }
+{
+    let Some(benches) = place.take() else {
+        unreachable!();
+    };
+    let (cost, benches) = cost_by_stretches(kept, benches, hints, d);
+    *place = Some(benches);
+    cost
+}
+
+/// What is told of a box, with the benches taken out and put back.
+fn lows_in(kept: &Kept, place: &mut Option<Benches>, hints: &[u32], b: &DesignBox) -> Summary
+    requires there { is_some place.old ≡ true }
+    requires lies { LiesIn kept.now.grids.families b.now }
+    ensures value { result ≡ tally_of kept.now.tolerance
+        (at_cells (kept_lower kept.now.grids.families kept.now.kinds b.now) kept.now.count) }
+    ensures small { result.value ≤ limit }
+    ensures there { is_some place.new ≡ true }
+{
+    let Some(benches) = place.take() else {
+        unreachable!();
+    };
+    let (lows, benches) = lows_by_stretches(kept, benches, hints, b);
+    *place = Some(benches);
+    lows
 }

@@ -1,7 +1,6 @@
-use Rattle.std.proofs.Common.{length, map, take, ap, sym, arith, ◌∙◌}
+use Rattle.std.proofs.Common.{length, take, ap, sym, ◌∙◌}
 use Rattle.ldp_num.specs.StepList.{value}
-use Rattle.ldp_num.specs.Written.{plain_out}
-use Rattle.ldp_bound.proofs.Runs.{meant, run_numbers}
+use Rattle.ldp_bound.proofs.Runs.{run_numbers}
 use Rattle.ldp_bound.proofs.inputs.put_design.Goals as goal
 
 pub returns : goal.returns
