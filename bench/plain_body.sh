@@ -1,8 +1,9 @@
 #!/usr/bin/env bash
 # Processor time and peak memory of `design`, `check` and `eval`, beside those of the same program with
-# plain bodies: there each bound looks at every cell, and the whole cell list is run at every cell.
+# plain bodies: there each bound looks at every cell, and at each cell all of the cell list is run but
+# what no input bears on.
 # That program is made in a folder of its own: in `ldp_answer`, `CellByCell` takes the place of `Plain`;
-# in `ldp_distortion`, no run of a cell list keeps anything. The crates above are proved and built anew.
+# in `ldp_distortion`, no input is said to stay in a row. The crates above are proved and built anew.
 # The problems are the example over the front range, and one zone cut into more and more cells: give
 # the sizes, as 488x408, or take those that end soon. Build the program of crates/ldp before:
 # (cd crates/ldp && rt run -- sample 1)
@@ -15,9 +16,7 @@ git clone -q "$here/.." "$folder/plain"
   cd "$folder/plain/crates"
   sed -i 's/^use ldp_bound::{Bounds, Cost, Plain};/use ldp_bound::{Bounds, CellByCell as Plain, Cost};/' ldp_answer/src/design.rt
   sed -i 's/^use ldp_bound::Plain;/use ldp_bound::CellByCell as Plain;/' ldp_answer/src/check.rt
-  sed -i '/^        if self.ran && /,/^        }/d' ldp_distortion/src/cell_runs.rt
-  sed -i -e '/^pub returns-then-/,/^$/d' -e 's/steps-2/steps/' \
-    ldp_distortion/proofs/cell_runs/CellRuns/run/Answers.antt
+  sed -i 's/^const IN_A_ROW: u16 = 1;/const IN_A_ROW: u16 = 0;/' ldp_distortion/src/table.rt
   cd ldp
   rt run -- sample 1 > "$folder/said"
 )
