@@ -1,9 +1,10 @@
 ghost use Rattle.std.specs.Prelude.{◌≡◌, IfSome};
+ghost use Rattle.std.specs.Bool.{Decides};
 ghost use Rattle.ldp_num.specs.Number.{IsNumber};
 ghost use Rattle.ldp_num.specs.Slopes.{made};
 ghost use Rattle.ldp_centred.specs.Kept.{IsError};
 
-use crate::slopes::Slopes;
+use crate::slopes::{Slopes, same_slopes};
 use std::marker::Model;
 
 /// What is known of an item besides its range: the centre and the error, in units of 10^-15, and
@@ -42,5 +43,25 @@ pub fn joined(centre: Option<i128>, error: Option<i128>, slopes: Option<Slopes>)
             slopes,
         }),
         _ => None,
+    }
+}
+
+/// Whether both say the same.
+#[inline(always)]
+fn alike(k: Known, l: Known) -> bool
+    ensures { Decides result (k ≡ l) }
+{
+    k.centre == l.centre && k.error == l.error && same_slopes(k.slopes, l.slopes)
+}
+
+/// Whether the same is known of both.
+#[inline(always)]
+pub fn same_known(k: Option<Known>, l: Option<Known>) -> bool
+    ensures { Decides result (k ≡ l) }
+{
+    match (k, l) {
+        (Some(k), Some(l)) => alike(k, l),
+        (None, None) => true,
+        _ => false,
     }
 }

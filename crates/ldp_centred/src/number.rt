@@ -46,6 +46,7 @@ pub fn opposite(x: i128) -> i128
 pub fn low(range: Range) -> i128
     ensures value { result ≡ range.0 }
     ensures number { IsNumber result }
+    ensures ordered { result ≤ℤ range.1 }
 {
     range.lo()
 }

@@ -59,12 +59,31 @@ fn divided(range: Range, k: Known, l: Known, centre: i128, near: Range) -> Optio
 }
 
 #[inline(always)]
-fn divided_near(range: Range, k: Known, l: Known, centre: i128) -> Option<Known>
+fn divided_near(
+    range: Range,
+    k: Known,
+    l: Known,
+    centre: i128,
+    near: Option<Range>,
+) -> Option<Known>
     requires { IsNumber centre }
-    ensures { result ≡ option_and_then (known_divided range k l centre) (out (centre, centre)) }
+    ensures { result ≡ option_and_then (known_divided range k l centre) near }
 {
-    match further(sharp(centre)) {
+    match near {
         Some(near) => divided(range, k, l, centre, near),
+        None => None,
+    }
+}
+
+// The same, from the quotient of the centres.
+#[inline(always)]
+fn divided_at(range: Range, k: Known, l: Known, centre: Option<i128>) -> Option<Known>
+    requires { IfSome centre IsNumber }
+    ensures { result ≡ option_and_then (λ c.
+        option_and_then (known_divided range k l c) (out (c, c))) centre }
+{
+    match centre {
+        Some(centre) => divided_near(range, k, l, centre, further(sharp(centre))),
         None => None,
     }
 }
@@ -74,10 +93,7 @@ fn divided_near(range: Range, k: Known, l: Known, centre: i128) -> Option<Known>
 pub fn known_quotient(range: Range, k: Known, l: Known) -> Option<Known>
     ensures { result ≡ known_div range k l }
 {
-    match div(k.centre, l.centre) {
-        Some(centre) => divided_near(range, k, l, centre),
-        None => None,
-    }
+    divided_at(range, k, l, div(k.centre, l.centre))
 }
 
 /// What is known of a quotient of two items, by the range of the divisor.

@@ -62,12 +62,25 @@ fn rooted(k: Known, centre: i128, both: Range) -> Option<Known>
 }
 
 #[inline(always)]
-fn rooted_near(range: Range, k: Known, centre: i128) -> Option<Known>
+fn rooted_by(k: Known, centre: i128, both: Option<Range>) -> Option<Known>
     requires { IsNumber centre }
-    ensures { result ≡ option_and_then (known_root k centre) (divisor range centre) }
+    ensures { result ≡ option_and_then (known_root k centre) both }
 {
-    match sum_of_roots(range, centre) {
+    match both {
         Some(both) => rooted(k, centre, both),
+        None => None,
+    }
+}
+
+// The same, from the root of the centre.
+#[inline(always)]
+fn rooted_at(range: Range, k: Known, centre: Option<i128>) -> Option<Known>
+    requires { IfSome centre IsNumber }
+    ensures { result ≡ option_and_then (λ c.
+        option_and_then (known_root k c) (divisor range c)) centre }
+{
+    match centre {
+        Some(centre) => rooted_by(k, centre, sum_of_roots(range, centre)),
         None => None,
     }
 }
@@ -77,10 +90,7 @@ fn rooted_near(range: Range, k: Known, centre: i128) -> Option<Known>
 pub fn known_square_root(range: Range, k: Known) -> Option<Known>
     ensures { result ≡ known_sqrt range k }
 {
-    match sqrt(k.centre) {
-        Some(centre) => rooted_near(range, k, centre),
-        None => None,
-    }
+    rooted_at(range, k, sqrt(k.centre))
 }
 
 /// What is known of the root of an item, by the root of its range.

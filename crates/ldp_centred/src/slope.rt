@@ -4,7 +4,7 @@ ghost use Rattle.ldp_num.specs.Slopes.{item, slope_add, slope_sub, slope_times, 
 ghost use Rattle.ldp_num.specs.Slopes.{slope_sq, slope_sqrt, slope_need, known_sqrt};
 ghost use Rattle.ldp_centred.specs.Kept.{IsCentred};
 
-use crate::known::Known;
+use crate::known::{Known, same_known};
 use crate::product::both_product;
 use crate::quotient::both_quotient;
 use crate::root::one_square_root;
@@ -187,6 +187,6 @@ impl Num for Slope {
 
     #[inline(always)]
     fn same(self, other: Slope) -> bool {
-        self == other
+        self.range.same(other.range) && same_known(self.known, other.known)
     }
 }

@@ -1,4 +1,5 @@
 ghost use Rattle.std.specs.Prelude.{◌≡◌};
+ghost use Rattle.std.specs.Bool.{Decides};
 ghost use Rattle.ldp_num.specs.Ranges.{pair_add, pair_sub};
 ghost use Rattle.ldp_num.specs.Slopes.{flat, of_places};
 ghost use Rattle.ldp_centred.specs.Kept.{four};
@@ -90,4 +91,23 @@ pub fn differences(s: Slopes, t: Slopes) -> Option<Slopes>
         difference(s.azimuth, t.azimuth),
         difference(s.scale, t.scale),
     )
+}
+
+/// Whether both are the same range.
+#[inline(always)]
+fn same_range(a: Range, b: Range) -> bool
+    ensures { Decides result (a ≡ b) }
+{
+    a == b
+}
+
+/// Whether both are the same slopes.
+#[inline(always)]
+pub fn same_slopes(s: Slopes, t: Slopes) -> bool
+    ensures { Decides result (s ≡ t) }
+{
+    same_range(s.latitude, t.latitude)
+        && same_range(s.longitude, t.longitude)
+        && same_range(s.azimuth, t.azimuth)
+        && same_range(s.scale, t.scale)
 }
