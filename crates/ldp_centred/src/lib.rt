@@ -3,7 +3,9 @@
 #![tactic(auto)]
 
 mod error;
+mod input;
 mod known;
+mod lowest;
 mod number;
 mod product;
 mod quotient;

@@ -17,10 +17,7 @@ use ldp_range::{Range, sharp};
 fn slope_of_product(range: Range, centre: Range, s: Range, t: Range) -> Option<Range>
     ensures { result ≡ of_pair pair_add (outward (pair_mul range t)) (outward (pair_mul centre s)) }
 {
-    sum_of(
-        outward_of(scaled(range, t)),
-        outward_of(scaled(centre, s)),
-    )
+    sum_of(outward_of(scaled(range, t)), outward_of(scaled(centre, s)))
 }
 
 // The slopes of a product, where the second centre stands as a range.

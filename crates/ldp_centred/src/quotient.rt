@@ -40,7 +40,10 @@ fn error_of_quotient(range: Range, near: Range, e: i128, f: i128) -> Option<i128
     ensures error { IfSome result IsError }
 {
     more(
-        share(more(added(e, weighed(greatest_size(near), f)), 1), low(range)),
+        share(
+            more(added(e, weighed(greatest_size(near), f)), 1),
+            low(range),
+        ),
         2,
     )
 }

@@ -1,10 +1,15 @@
-ghost use Rattle.std.specs.Prelude.{◌≡◌, ℤ, Some, option_map, option_and_then};
+ghost use Rattle.std.specs.Prelude.{◌≡◌, ◌<◌, ◌≤ℤ◌, ℤ, pos, [], ◌∷◌, Some, option_map};
+ghost use Rattle.std.specs.Prelude.{option_and_then};
+ghost use Rattle.ldp_num.specs.Number.{IsNumber};
 ghost use Rattle.ldp_num.specs.Ranges.{pair_sqrt};
 ghost use Rattle.ldp_num.specs.Slopes.{item, slope_add, slope_sub, slope_times, slope_over};
 ghost use Rattle.ldp_num.specs.Slopes.{slope_sq, slope_sqrt, slope_need, known_sqrt};
 ghost use Rattle.ldp_centred.specs.Kept.{IsCentred};
+ghost use Rattle.ldp_centred.specs.Lowest.{item_input, lowest};
 
+use crate::input::known_input;
 use crate::known::{Known, same_known};
+use crate::lowest::{lowest_in, one_form};
 use crate::product::both_product;
 use crate::quotient::both_quotient;
 use crate::root::one_square_root;
@@ -127,6 +132,50 @@ fn natural(a: Slope) -> Option<Slope>
     ensures { result ≡ slope_need a }
 {
     described(pairs::natural(a.range), one_natural(a.known))
+}
+
+impl Slope {
+    /// The design input at a place, over its range: the latitude is at 0, the longitude at 1, the
+    /// azimuth at 2 and the scale at 3.
+    #[inline(always)]
+    pub fn input(range: Range, place: u32) -> Slope
+        requires { place < 4 }
+        ensures { result ≡ item_input range place }
+    {
+        Slope {
+            range,
+            known: Some(known_input(range, place)),
+        }
+    }
+
+    /// The least absolute value of the item over a box of design inputs, in units of 10^-15.
+    #[inline(always)]
+    pub fn lowest_over(
+        self,
+        latitude: Range,
+        longitude: Range,
+        azimuth: Range,
+        scale: Range,
+    ) -> i128
+        ensures value { result ≡ lowest self (latitude ∷ longitude ∷ azimuth ∷ scale ∷ []) }
+        ensures number { IsNumber result }
+        ensures natural { pos 0 ≤ℤ result }
+    {
+        lowest_in(
+            self.range,
+            one_form(self.known, latitude, longitude, azimuth, scale),
+        )
+    }
+
+    /// The same, where the ranges of the design inputs stand in an array.
+    #[inline(always)]
+    pub fn lowest(self, inputs: &[Range; 4]) -> i128
+        ensures value { result ≡ lowest self inputs.now }
+        ensures number { IsNumber result }
+        ensures natural { pos 0 ≤ℤ result }
+    {
+        self.lowest_over(inputs[0], inputs[1], inputs[2], inputs[3])
+    }
 }
 
 impl Num for Slope {

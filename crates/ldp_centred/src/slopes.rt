@@ -26,10 +26,10 @@ impl Model for Slopes {
     ghost view = { λ s. s.latitude ∷ s.longitude ∷ s.azimuth ∷ s.scale ∷ [] };
 
     ghost inverse = { λ slopes. record {
-        latitude = first slopes;
-        longitude = first (rest slopes);
-        azimuth = first (rest (rest slopes));
-        scale = first (rest (rest (rest slopes)));
+      latitude = first slopes;
+      longitude = first (rest slopes);
+      azimuth = first (rest (rest slopes));
+      scale = first (rest (rest (rest slopes)));
     } };
 }
 

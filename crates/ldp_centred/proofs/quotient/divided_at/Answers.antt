@@ -11,7 +11,7 @@ returns-in-Some c =
     let n : IsNumber c.in-Some.centre = rw c.in-Some.is at c.requires in
     let p = number-passed c.in-Some.centre n in
     let h : c.divided_near.result ≡ option_and_then
-        (known_divided c.args.range c.args.k c.args.l (to_z w128 (of_z w128 c.in-Some.centre)))
-        c.further.result =
+    (known_divided c.args.range c.args.k c.args.l (to_z w128 (of_z w128 c.in-Some.centre)))
+    c.further.result =
     c.divided_near.ensures in
     rw c.in-Some.is (rw (p, c.further.ensures, c.sharp.ensures, p) at h)
