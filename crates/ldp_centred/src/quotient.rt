@@ -78,6 +78,15 @@ fn divided_near(
     }
 }
 
+// Where the quotient of the centres lies, which is this when rounded down.
+#[inline(always)]
+fn near_quotient(centre: i128) -> Option<Range>
+    requires { IsNumber centre }
+    ensures { result ≡ out (centre, centre) }
+{
+    further(sharp(centre))
+}
+
 // The same, from the quotient of the centres.
 #[inline(always)]
 fn divided_at(range: Range, k: Known, l: Known, centre: Option<i128>) -> Option<Known>
@@ -86,7 +95,7 @@ fn divided_at(range: Range, k: Known, l: Known, centre: Option<i128>) -> Option<
         option_and_then (known_divided range k l c) (out (c, c))) centre }
 {
     match centre {
-        Some(centre) => divided_near(range, k, l, centre, further(sharp(centre))),
+        Some(centre) => divided_near(range, k, l, centre, near_quotient(centre)),
         None => None,
     }
 }

@@ -12,6 +12,6 @@ returns-in-Some c =
     let p = number-passed c.in-Some.centre n in
     let h : c.divided_near.result ≡ option_and_then
     (known_divided c.args.range c.args.k c.args.l (to_z w128 (of_z w128 c.in-Some.centre)))
-    c.further.result =
+    c.near_quotient.result =
     c.divided_near.ensures in
-    rw c.in-Some.is (rw (p, c.further.ensures, c.sharp.ensures, p) at h)
+    rw c.in-Some.is (rw (p, c.near_quotient.ensures, p) at h)
