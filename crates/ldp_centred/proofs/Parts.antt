@@ -1,5 +1,5 @@
 -- The parts of a result, put together.
-use Rattle.std.proofs.Common.{◌≡◌, ◌≤ℤ◌, ◌+ℤ◌, ℤ, pos, List, Option, None, Some, sym, ap, ◌∙◌, arith}
+use Rattle.std.proofs.Common.{◌≡◌, ◌≤ℤ◌, ◌+ℤ◌, ℤ, pos, List, Option, Some, arith}
 use Rattle.std.proofs.lemmas.Int.{ints}
 use Rattle.ldp_num.specs.Number.{number}
 use Rattle.ldp_num.specs.Plain.{plain_add}

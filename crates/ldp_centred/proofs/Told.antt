@@ -1,6 +1,5 @@
 -- An operation on items is the written operation over the lists that they mean.
-use Rattle.std.proofs.Common.{◌≡◌, Option, Some, option_map, sym, ap, ◌∙◌, refl}
-use Rattle.std.specs.Prelude.{option_and_then}
+use Rattle.std.proofs.Common.{◌≡◌, Option, Some, option_map, sym, ap, ◌∙◌}
 use Rattle.ldp_num.specs.Slopes.{Item}
 use Rattle.ldp_num.specs.Written.{slope_in, slope_out, of_one, of_two}
 use Rattle.ldp_num.proofs.Listed.{slope_back}

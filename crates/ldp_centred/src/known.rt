@@ -46,7 +46,7 @@ pub fn joined(centre: Option<i128>, error: Option<i128>, slopes: Option<Slopes>)
     }
 }
 
-/// Whether both say the same.
+// Whether both say the same.
 #[inline(always)]
 fn alike(k: Known, l: Known) -> bool
     ensures { Decides result (k ≡ l) }

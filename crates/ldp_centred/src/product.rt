@@ -13,7 +13,7 @@ use ldp_num::mul;
 use ldp_range::{Range, sharp};
 
 // A slope of a product, where the second centre stands as a range.
-#[inline(always)]
+#[inline(never)]
 fn slope_of_product(range: Range, centre: Range, s: Range, t: Range) -> Option<Range>
     ensures { result ≡ of_pair pair_add (outward (pair_mul range t)) (outward (pair_mul centre s)) }
 {

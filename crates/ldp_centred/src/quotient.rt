@@ -12,13 +12,14 @@ use ldp_num::div;
 use ldp_range::{Range, sharp};
 
 // A slope of a quotient by a divisor in this range, where near holds the quotient of the centres.
-#[inline(always)]
+#[inline(never)]
 fn slope_of_quotient(range: Range, near: Range, s: Range, t: Range) -> Option<Range>
     ensures { result ≡ slope_div range near s t }
 {
     outward_of(over_of(less(s, outward_of(scaled(near, t))), range))
 }
 
+// The slopes of a quotient, one for each design input.
 #[inline(always)]
 fn slopes_of_quotient(range: Range, near: Range, s: Slopes, t: Slopes) -> Option<Slopes>
     ensures { result ≡ of_places (slope_div range near) s t }
@@ -61,6 +62,7 @@ fn divided(range: Range, k: Known, l: Known, centre: i128, near: Range) -> Optio
     )
 }
 
+// The same, where the pair near that quotient may be undefined.
 #[inline(always)]
 fn divided_near(
     range: Range,

@@ -61,6 +61,7 @@ fn rooted(k: Known, centre: i128, both: Range) -> Option<Known>
     )
 }
 
+// The same, where the sum of the roots may be undefined.
 #[inline(always)]
 fn rooted_by(k: Known, centre: i128, both: Option<Range>) -> Option<Known>
     requires { IsNumber centre }

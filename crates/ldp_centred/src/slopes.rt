@@ -93,7 +93,7 @@ pub fn differences(s: Slopes, t: Slopes) -> Option<Slopes>
     )
 }
 
-/// Whether both are the same range.
+// Whether both are the same range.
 #[inline(always)]
 fn same_range(a: Range, b: Range) -> bool
     ensures { Decides result (a ≡ b) }

@@ -13,7 +13,7 @@ use ldp_range::pairs::sum;
 use ldp_range::{Range, sharp};
 
 // The slopes of a square, by the sum of the range and the centre.
-#[inline(always)]
+#[inline(never)]
 fn slopes_of_square(both: Range, s: Slopes) -> Option<Slopes>
     ensures { result ≡ of_each (λ s. outward (pair_mul both s)) s }
 {
@@ -47,6 +47,7 @@ fn squared(k: Known, both: Range) -> Option<Known>
     )
 }
 
+// The same, where that sum may be undefined.
 #[inline(always)]
 fn squared_by(k: Known, both: Option<Range>) -> Option<Known>
     ensures { result ≡ option_and_then (known_squared k) both }
