@@ -6,9 +6,9 @@ use Rattle.ldp_num.specs.Plain.{plain_add, plain_sub, plain_mul, plain_div, plai
 use Rattle.ldp_num.specs.Plain.{plain_need}
 use Rattle.ldp_num.specs.Ranges.{pair_add, pair_sub, pair_mul, pair_div, pair_sq, pair_sqrt}
 use Rattle.ldp_num.specs.Ranges.{pair_need}
-use Rattle.ldp_num.specs.Slopes.{Known, of_pair, made, out, divisor, known_add, known_sub, known_mul}
-use Rattle.ldp_num.specs.Slopes.{known_divided, known_div, known_squared, known_sq, known_root}
-use Rattle.ldp_num.specs.Slopes.{known_sqrt, known_need}
+use Rattle.ldp_num.specs.Slopes.{Known, of_pair, made, out, divisor, known_add, known_sub}
+use Rattle.ldp_num.specs.Slopes.{known_mul, known_divided, known_div, known_squared, known_sq}
+use Rattle.ldp_num.specs.Slopes.{known_root, known_sqrt, known_need}
 use Rattle.ldp_range.specs.Range.{LiesIn}
 use Rattle.ldp_range.specs.Related.{Reaches, FollowsOne, FollowsTwo}
 use Rattle.ldp_range.proofs.Inclusion.{numbers-lie-in}
@@ -71,8 +71,8 @@ sq-centre a k m h =
 sqrt-centre : (r : ℤ × ℤ) (k m : Known) → known_sqrt r k ≡ Some m
     → plain_sqrt k.centre ≡ Some m.centre
 sqrt-centre r k m h =
-    let t = then-some (λ c. option_and_then (known_root k c) (divisor r c)) (plain_sqrt k.centre) m h
-    in
+    let t = then-some (λ c. option_and_then (known_root k c) (divisor r c))
+    (plain_sqrt k.centre) m h in
     let u = then-some (known_root k t.0) (divisor r t.0) m t.1.1 in
     t.1.0 ∙ made-centre (Some t.0) _ _ m u.1.1
 

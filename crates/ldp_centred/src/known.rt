@@ -17,10 +17,10 @@ pub struct Known {
 }
 
 impl Model for Known {
-    ghost use Rattle.ldp_num.specs.Slopes.{Known as Parts};
+    ghost use Rattle.ldp_num.specs.Slopes.{Known as KnownValue};
     ghost use Rattle.ldp_centred.specs.Kept.{IsKnown};
 
-    ghost Value = { Parts };
+    ghost Value = { KnownValue };
 
     ghost view = { λ k. record { centre = k.centre; error = k.error; slopes = k.slopes } };
 

@@ -167,8 +167,8 @@ impl Slope {
         )
     }
 
-    /// The same, where the ranges of the latitude, the longitude, the azimuth and the scale stand in
-    /// an array in this order.
+    /// The same, where the ranges of latitude, longitude, azimuth and scale stand in an array in
+    /// this order.
     #[inline(always)]
     pub fn lowest(self, inputs: &[Range; 4]) -> i128
         ensures value { result ≡ lowest self inputs.now }
