@@ -1,0 +1,4 @@
+pub mod Casts
+pub mod Centring
+pub mod Told
+pub mod Parts

@@ -1,0 +1,6 @@
+use Rattle.ldp_num.specs.Written.{slope_ops}
+use Rattle.ldp_centred.proofs.Told.{two-told}
+use Rattle.ldp_centred.proofs.slope.SlopeNum.div.Goals as goal
+
+pub returns : goal.returns
+returns c = two-told slope_ops.div c.args.self c.args.other _ c.quotient.ensures

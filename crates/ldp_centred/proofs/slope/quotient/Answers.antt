@@ -1,0 +1,12 @@
+use Rattle.std.proofs.Common.{sym, ◌∙◌}
+use Rattle.ldp_centred.proofs.Centring.{div-centred}
+use Rattle.ldp_centred.proofs.slope.quotient.Goals as goal
+
+pub described-requires : goal.described-requires
+described-requires c = λ r e.
+    rw c.both_quotient.ensures
+    (div-centred _ _ r _ _ c.a.invariant c.b.invariant (sym c.over.ensures ∙ e))
+
+pub returns : goal.returns
+returns c =
+    rw (← c.a.view_is, ← c.b.view_is, c.described.ensures, c.both_quotient.ensures, c.over.ensures)
