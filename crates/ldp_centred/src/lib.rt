@@ -15,4 +15,6 @@ mod slopes;
 mod square;
 mod sum;
 
+pub use known::Known;
 pub use slope::Slope;
+pub use slopes::Slopes;

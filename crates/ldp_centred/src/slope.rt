@@ -135,6 +135,22 @@ fn natural(a: Slope) -> Option<Slope>
 }
 
 impl Slope {
+    /// The range.
+    #[inline(always)]
+    pub fn range(self) -> Range
+        ensures { result ≡ self.range }
+    {
+        self.range
+    }
+
+    /// What is known besides, if anything is.
+    #[inline(always)]
+    pub fn known(self) -> Option<Known>
+        ensures { result ≡ self.known }
+    {
+        self.known
+    }
+
     /// The design input at a place, over its range: the latitude is at 0, the longitude at 1, the
     /// azimuth at 2 and the scale at 3.
     #[inline(always)]

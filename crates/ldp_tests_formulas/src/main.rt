@@ -26,6 +26,7 @@ mod range;
 mod say;
 mod script;
 mod series;
+mod slope;
 mod twin;
 mod words;
 

@@ -1,5 +1,5 @@
 use crate::words::split;
-use crate::{design, ellipsoid, laws, list, plain, range, series, twin};
+use crate::{design, ellipsoid, laws, list, plain, range, series, slope, twin};
 use anyhow::{Result, bail};
 
 /// Prints the answer to a line, or nothing where it asks nothing.
@@ -25,6 +25,7 @@ fn answer(rt: &(impl Print + AllocGlobal), grid: &[u8], part: &str, rest: &str) 
         "plain" => plain::answer(rt, call, rest),
         "range" => range::answer(rt, call, rest),
         "twin" => twin::answer(rt, call, rest),
+        "slope" => slope::answer(rt, call, rest),
         "laws" => laws::answer(rt, call),
         "list" => list::answer(rt, call, rest),
         "series" => series::answer(rt, call, rest),
