@@ -22,7 +22,7 @@ pub fn ask(rt: &(impl Print + AllocGlobal), designs: &str, word: &str, rest: &st
 }
 
 fn box_of(grids: &Grids, words: &str) -> Result<DesignBox>
-    ensures { IfOk result (LiesIn grids.now) }
+    ensures { IfOk result (LiesIn grids.now.families) }
 {
     let place = Place::of(words)?;
     let all = all_of(grids, place.family)?;
@@ -31,7 +31,7 @@ fn box_of(grids: &Grids, words: &str) -> Result<DesignBox>
 
 /// Where a box is cut, and the spans of both its parts on the axis that is cut.
 fn put_parts(rt: &impl Print, grids: &Grids, b: &DesignBox) -> Result<()>
-    requires { LiesIn grids.now b.now }
+    requires { LiesIn grids.now.families b.now }
 {
     let Some((axis, at)) = cut_for(grids, b) else {
         println!(rt; "none")?;
@@ -51,7 +51,7 @@ fn put_parts(rt: &impl Print, grids: &Grids, b: &DesignBox) -> Result<()>
 
 /// The inputs at both ends of a box: latitude, longitude and azimuth in radians, the scale factor.
 fn put_inputs(rt: &impl Print, grids: &Grids, b: &DesignBox) -> Result<()>
-    requires { LiesIn grids.now b.now }
+    requires { LiesIn grids.now.families b.now }
 {
     let (low, high) = inputs_of(grids, b);
     println!(rt; "low {} {} {} {}", low.lat, low.lon, low.azimuth, low.scale)?;

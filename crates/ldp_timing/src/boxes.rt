@@ -118,8 +118,15 @@ pub fn bounds(alloc: Global, kind: Kind, runs: u32) -> Result<i128, Memory> {
     if cells.len() == 0 {
         return Ok(0);
     }
-    let mut plain = Plain::new(alloc, &grids, &cells, None)?;
-    Ok(sum_of_bounds(&mut plain, &grids, runs))
+    bounds_over(alloc, &grids, &cells, runs)
+}
+
+fn bounds_over(alloc: Global, grids: &Grids, cells: &Cells, runs: u32) -> Result<i128, Memory>
+    requires cells { 0 < length cells.now.cells }
+    requires families { 0 < length grids.now.families }
+{
+    let mut plain = Plain::new(alloc, grids, cells, None)?;
+    Ok(sum_of_bounds(&mut plain, grids, runs))
 }
 
 fn sum_of_bounds<B: Bounds>(bounds: &mut B, grids: &Grids, runs: u32) -> i128

@@ -4,6 +4,6 @@ use Rattle.ldp_tests_bounds.proofs.holds.boxes_hold.Given as goal
 
 abbrev pub invariant-loop-number : goal.invariant-loop-number
 invariant-loop-number g l = record {
-  over : IsOver l.grids l.count (g.B.Bounds.problem l.bounds);
-  lies : LiesIn l.grids l.b;
+  over : IsOver l.grids.families l.count (g.B.Bounds.problem l.bounds);
+  lies : LiesIn l.grids.families l.b;
 }

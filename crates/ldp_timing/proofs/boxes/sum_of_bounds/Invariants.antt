@@ -4,6 +4,6 @@ use Rattle.ldp_timing.proofs.boxes.sum_of_bounds.Given as goal
 
 abbrev pub invariant-loop-round : goal.invariant-loop-round
 invariant-loop-round g l = record {
-  families : (g.B.Bounds.problem l.bounds).families ≡ l.grids;
-  lies : LiesIn l.grids l.b;
+  families : (g.B.Bounds.problem l.bounds).families ≡ l.grids.families;
+  lies : LiesIn l.grids.families l.b;
 }
