@@ -1,0 +1,4 @@
+pub mod Line
+pub mod Coordinates
+pub mod Reading
+pub mod Seen
