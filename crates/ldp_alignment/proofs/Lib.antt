@@ -1,1 +1,2 @@
 mod Stations
+mod Fours

@@ -2,3 +2,5 @@ pub mod Line
 pub mod Coordinates
 pub mod Reading
 pub mod Seen
+pub mod Heights
+pub mod Bounded

@@ -2,13 +2,20 @@
 //! station from a grid of heights.
 #![tactic(auto)]
 
+mod between;
 mod coordinates;
 mod fault;
+pub mod laws;
 mod line;
+mod position;
 mod read;
 mod reader;
+mod share;
 mod station;
+mod sums;
+mod weight;
 
+pub use between::height_at;
 pub use fault::LineFault;
 pub use line::Line;
 pub use read::read_line;
