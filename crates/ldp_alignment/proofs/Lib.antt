@@ -1,2 +1,4 @@
 mod Stations
 mod Fours
+mod Bounds
+mod Along
