@@ -35,10 +35,10 @@ longer : (f : ℕ → ℤ) (n i : ℕ) → (n < i) ⊎ (i < n) → within f (suc
 longer f n i (inl h) = outside f (suc n) i (omega arith) ∙ sym (outside f n i (omega arith))
 longer f n i (inr h) = inside f (suc n) i (omega arith) ∙ sym (inside f n i h)
 
-add-zero : (z : ℤ) → z +ℤ pos 0 ≡ z
+pub add-zero : (z : ℤ) → z +ℤ pos 0 ≡ z
 add-zero z = omega (arith, ints)
 
-zero-add : (z : ℤ) → pos 0 +ℤ z ≡ z
+pub zero-add : (z : ℤ) → pos 0 +ℤ z ≡ z
 zero-add z = omega (arith, ints)
 
 -- a sum is that of f a and f (a + 1)
@@ -175,7 +175,7 @@ apart (centre first) s k = omega (arith, ints)
 
 -- Shares.
 
-no_share : (a b : ℕ) (told : ℤ) → (a ≡ 0) ⊎ (b ≡ 0) → pos (a * b) *ℤ told ≡ pos 0
+pub no_share : (a b : ℕ) (told : ℤ) → (a ≡ 0) ⊎ (b ≡ 0) → pos (a * b) *ℤ told ≡ pos 0
 no_share a b told (inl e) =
     let none : a * b ≡ 0 = ap (λ n. n * b) e ∙ omega arith in
     ap (λ n. pos n *ℤ told) none ∙ zero-*ℤ told
@@ -189,7 +189,7 @@ none_within f n i (inl h) none = inside f n i h ∙ none i
 none_within f n i (inr h) none = outside f n i h
 
 -- the centres of the row that stands so far from the south
-south_apart : (grid : HeightGrid) (k : ℕ) → k < grid.rows
+pub south_apart : (grid : HeightGrid) (k : ℕ) → k < grid.rows
     → centre_y grid (grid.rows - 1 - k) ≡ south grid +ℤ pos (k * grid.spacing)
 south_apart grid k h =
     let here : grid.rows - 1 - (grid.rows - 1 - k) ≡ k = omega arith in

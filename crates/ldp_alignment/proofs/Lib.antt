@@ -1,4 +1,5 @@
 mod Stations
 mod Fours
 mod Bounds
+mod Centres
 mod Along

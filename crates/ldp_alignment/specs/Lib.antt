@@ -4,3 +4,4 @@ pub mod Reading
 pub mod Seen
 pub mod Heights
 pub mod Bounded
+pub mod Placed
