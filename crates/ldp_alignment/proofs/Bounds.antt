@@ -1,5 +1,5 @@
 -- Bounds of sums of weights and heights, and the mean within them.
-use Rattle.std.proofs.Common.{◌≡◌, ℕ, suc, ◌+◌, ◌*◌, ◌/◌, ◌^◌, ◌<◌, ◌≤◌, true, ℤ, pos, negsuc, neg_ℤ}
+use Rattle.std.proofs.Common.{◌≡◌, ℕ, suc, ◌*◌, ◌/◌, ◌^◌, ◌<◌, ◌≤◌, true, ℤ, pos, negsuc, neg_ℤ}
 use Rattle.std.proofs.Common.{◌*ℤ◌, ◌≤ℤ◌, arith, refl, ap, ◌∙◌, Some, to_z, of_z, FitsSigned}
 use Rattle.std.proofs.Common.{unsigned_abs}
 use Rattle.std.specs.Ordering.{int_eq}

@@ -1,16 +1,16 @@
 -- At a centre the place itself has the whole weight, and its neighbours have none.
-use Rattle.std.proofs.Common.{◌≡◌, ℕ, suc, ◌+◌, ◌-◌, ◌*◌, ◌/◌, ◌<◌, ◌≤◌, true, ℤ, pos, negsuc, neg_ℤ}
-use Rattle.std.proofs.Common.{◌+ℤ◌, ◌-ℤ◌, ◌*ℤ◌, unsigned_abs, Option, Some, arith, refl, ap, sym}
+use Rattle.std.proofs.Common.{◌≡◌, ℕ, suc, ◌+◌, ◌-◌, ◌*◌, ◌/◌, ◌<◌, ◌≤◌, ℤ, pos, negsuc, neg_ℤ}
+use Rattle.std.proofs.Common.{◌+ℤ◌, ◌-ℤ◌, ◌*ℤ◌, unsigned_abs, Option, Some, arith, ap, sym}
 use Rattle.std.proofs.Common.{◌∙◌, ◌⊎◌, inl, inr}
 use Rattle.std.proofs.lemmas.Bool.{cases_lt}
 use Rattle.std.proofs.lemmas.Int.{ints}
 use Rattle.std.proofs.Math.Nat.{mul-div_cancel, mul-div_cancel_left, div-eq_of_lt-le, mul-le-mul}
 use Rattle.std.proofs.Math.IntN.{pos-*ℤ-pos, pos-*ℤ-negsuc}
 use Rattle.ldp_num.specs.Plain.{floor_div}
-use Rattle.ldp_heights.specs.Grid.{HeightGrid, IsHeightGrid, centre_along, centre_x, centre_y}
+use Rattle.ldp_heights.specs.Grid.{HeightGrid, centre_x, centre_y}
 use Rattle.ldp_heights.specs.Grid.{place_height}
 use Rattle.ldp_alignment.specs.Heights.{reach, share, sum_over, places_before, west, south, within}
-use Rattle.ldp_alignment.specs.Heights.{place_share, two_shares, four_shares, presence, mean}
+use Rattle.ldp_alignment.specs.Heights.{place_share, two_shares, four_shares, presence}
 use Rattle.ldp_alignment.specs.Heights.{height_or_zero, height_at, ExactAtCentres}
 use Rattle.ldp_alignment.proofs.Bounds.{mean_told}
 use Rattle.ldp_alignment.proofs.Fours.{inside, outside, add-zero, no_share, apart, south_apart}

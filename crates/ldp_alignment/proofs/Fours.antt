@@ -1,7 +1,7 @@
 -- The sum over all places of a grid is that over the four about a point: every other place is a
 -- spacing or more away along an axis, and so has no weight.
-use Rattle.std.proofs.Common.{◌≡◌, ℕ, zero, suc, ◌+◌, ◌-◌, ◌*◌, ◌/◌, ◌%◌, ◌<◌, ◌≤◌}
-use Rattle.std.proofs.Common.{ℤ, pos, negsuc, ◌+ℤ◌, ◌-ℤ◌, ◌*ℤ◌, unsigned_abs, Option, nat_lt}
+use Rattle.std.proofs.Common.{◌≡◌, ℕ, zero, suc, ◌+◌, ◌-◌, ◌*◌, ◌/◌, ◌<◌, ◌≤◌}
+use Rattle.std.proofs.Common.{ℤ, pos, negsuc, ◌+ℤ◌, ◌-ℤ◌, ◌*ℤ◌, unsigned_abs, Option}
 use Rattle.std.proofs.Common.{arith, refl, ap, sym, subst, ◌∙◌, ◌⊎◌, inl, inr}
 use Rattle.std.proofs.lemmas.Bool.{cases_lt, lt-ltb, le-ltb}
 use Rattle.std.proofs.lemmas.Int.{ints}
@@ -10,7 +10,7 @@ use Rattle.std.proofs.Math.Nat.{mul-add-div_right}
 use Rattle.std.proofs.Math.IntN.{zero-*ℤ}
 use Rattle.ldp_heights.specs.Grid.{HeightGrid, Coordinate, corner, centre, centre_along}
 use Rattle.ldp_heights.specs.Grid.{centre_x, centre_y, place_height}
-use Rattle.ldp_alignment.specs.Heights.{total, reach, weight, share, sum_over, places_before, west}
+use Rattle.ldp_alignment.specs.Heights.{total, reach, share, sum_over, places_before, west}
 use Rattle.ldp_alignment.specs.Heights.{height_at, mean, presence, height_or_zero}
 use Rattle.ldp_alignment.specs.Heights.{south, within, two_shares, four_shares, FourAreEnough}
 
@@ -134,8 +134,10 @@ distance (pos d) s k some first second = far (sides k (d / s))
   where
     low : d / s * s ≤ d
     low = (le-div_iff_mul-le {k = s} {x = d / s} {y = d} some).0 (omega arith)
+
     high : d < (d / s + 1) * s
     high = (div-lt_iff_lt-mul {k = s} {x = d} {y = d / s + 1} some).0 (omega arith)
+
     far : (k ≡ d / s) ⊎ ((k < d / s) ⊎ (d / s < k)) → s ≤ unsigned_abs (pos d -ℤ pos (k * s))
     far (inl e) = absurd (first e)
     far (inr (inl h)) =

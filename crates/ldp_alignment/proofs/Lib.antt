@@ -3,3 +3,4 @@ mod Fours
 mod Bounds
 mod Centres
 mod Along
+mod Onward

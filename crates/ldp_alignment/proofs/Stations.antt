@@ -1,6 +1,6 @@
 -- A station more at the end of a line that goes forward.
 use Rattle.std.proofs.Common.{◌≡◌, ◌≤◌, ◌+◌, false, ℤ, pos, ◌≤ℤ◌, List, [], ◌∷◌, ◌++◌, refl}
-use Rattle.std.proofs.Common.{All, length, Option, Some, None, IfSome, arith, ap, sym, ◌∙◌}
+use Rattle.std.proofs.Common.{length, Option, Some, None, IfSome, arith, ap, sym, ◌∙◌}
 use lib.Signed.{lt_z}
 use Rattle.std.proofs.lemmas.Int.{ints}
 use Rattle.std.proofs.lemmas.List.{length_push}
@@ -54,3 +54,12 @@ next_station p x y along last stations kept with_x with_y range more last_is is 
 
 pub not_before : (a b : ℤ) → lt_z a b ≡ false → b ≤ℤ a
 not_before a b h = grind (arith, ints)
+
+-- a station for another of the same chainage
+pub forward_swap : (last : ℤ) (front rest : List Station) (next station : Station)
+    → next.chainage ≡ station.chainage → AreForward last (front ++ station ∷ rest)
+    → AreForward last ((front ++ next ∷ []) ++ rest)
+forward_swap last [] rest next station same kept =
+    (rw same kept.0, rw same kept.1)
+forward_swap last (first ∷ front) rest next station same kept =
+    (kept.0, forward_swap first.chainage front rest next station same kept.1)

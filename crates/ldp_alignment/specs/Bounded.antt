@@ -1,5 +1,5 @@
 -- Bounds of what the height between places is made of, of which the private functions speak.
-use Rattle.std.specs.Prelude.{ℕ, ◌*◌, ◌^◌, ◌≤◌, ℤ, pos, neg_ℤ, ◌*ℤ◌, ◌≤ℤ◌}
+use Rattle.std.specs.Prelude.{ℕ, ◌*◌, ◌^◌, pos, neg_ℤ, ◌*ℤ◌, ◌≤ℤ◌}
 use Rattle.ldp_quantity.specs.Quantity.{IsLongitude, IsLatitude}
 use Rattle.ldp_alignment.specs.declared.position.Position.{Position}
 use Rattle.ldp_alignment.specs.declared.sums.Sums.{Sums}

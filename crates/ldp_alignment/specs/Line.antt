@@ -1,6 +1,6 @@
 -- What the stations of a line keep. (Chainage is the distance along the line from its start, as in
 -- the survey of roads; the ranges are own choices of this project.)
-use Rattle.std.specs.Prelude.{ℕ, ◌*◌, ◌≤◌, ℤ, pos, ◌≤ℤ◌, neg_ℤ, List, [], ◌∷◌, length, All}
+use Rattle.std.specs.Prelude.{ℕ, ◌≤◌, ℤ, pos, ◌≤ℤ◌, neg_ℤ, List, [], ◌∷◌, length, All}
 use Rattle.ldp_quantity.specs.Between.{IsBetween}
 use Rattle.ldp_quantity.specs.Quantity.{IsLongitude, IsLatitude}
 use Rattle.ldp_heights.specs.Grid.{metres}

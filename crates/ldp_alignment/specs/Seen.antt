@@ -1,5 +1,5 @@
 -- What the private functions of the reader speak of.
-use Rattle.std.specs.Prelude.{ℕ, ◌≤◌, ◌≡◌, ℤ, pos, List, [], ◌∷◌, length, All, IsSome, IfSome}
+use Rattle.std.specs.Prelude.{◌≤◌, ◌≡◌, ℤ, pos, List, [], ◌∷◌, length, All, IsSome, IfSome}
 use Rattle.std.specs.Prelude.{Result, Ok, Err}
 use Rattle.ldp_quantity.specs.Quantity.{IsLongitude, IsLatitude}
 use Rattle.ldp_alignment.specs.Line.{IsStation, IsChainage, AreForward, most_stations}

@@ -30,6 +30,7 @@ fn station_with(number: u32, station: &Station, heights: &Heights) -> Result<Sta
     ensures value { result ≡ station_with number station.now
         (height_at heights.now station.now.x station.now.y) }
     ensures range { IfOk result IsStation }
+    ensures along { IfOk result (λ next. next.chainage ≡ station.now.chainage) }
 {
     match height_at(heights, station.x, station.y) {
         None => Err(PlaceFault::NoHeight(number)),

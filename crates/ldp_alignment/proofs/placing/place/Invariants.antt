@@ -3,8 +3,8 @@ use Rattle.ldp_alignment.specs.Line.{IsStation, AreForward}
 use Rattle.ldp_alignment.specs.Placed.{placed, placed_onto}
 use Rattle.ldp_alignment.proofs.placing.place.Given as goal
 
-abbrev pub invariant-loop-station : goal.invariant-loop-station
-invariant-loop-station l = record {
+abbrev pub invariant-loop-number : goal.invariant-loop-number
+invariant-loop-number l = record {
   same : placed_onto l.heights l.found.items (drop l.number l.stations) ≡ placed l.heights l.line;
   each : length l.found.items ≡ l.number;
   range : All IsStation l.found.items;

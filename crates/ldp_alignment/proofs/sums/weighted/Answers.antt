@@ -1,5 +1,4 @@
 use Rattle.std.proofs.Common.{◌≡◌, pos, ◌*ℤ◌, rules, ap, ◌∙◌}
-use Rattle.std.proofs.lemmas.Int.{ints, to_z-of_z}
 use mir.Val.{to_z, of_z}
 use mir.Syntax.{w128}
 use Rattle.ldp_alignment.proofs.Bounds.{bounded_one, product_back}
