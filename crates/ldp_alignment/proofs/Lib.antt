@@ -1,0 +1,6 @@
+mod Stations
+mod Fours
+mod Bounds
+mod Centres
+mod Along
+mod Onward
