@@ -3,4 +3,5 @@ mod Fours
 mod Bounds
 mod Centres
 mod Along
+mod Pieces
 mod Onward

@@ -5,3 +5,4 @@ pub mod Seen
 pub mod Heights
 pub mod Bounded
 pub mod Placed
+pub mod Lengths

@@ -6,6 +6,7 @@ mod between;
 mod coordinates;
 mod fault;
 pub mod laws;
+mod length;
 mod line;
 mod place_fault;
 mod placing;
@@ -19,6 +20,7 @@ mod weight;
 
 pub use between::height_at;
 pub use fault::LineFault;
+pub use length::length_difference;
 pub use line::Line;
 pub use place_fault::PlaceFault;
 pub use placing::place;
