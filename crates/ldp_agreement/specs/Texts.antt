@@ -1,8 +1,8 @@
 -- The certificate of the best design has a text, which is read back and is short.
 use Rattle.std.specs.Prelude.{◌≡◌, ◌<◌, ◌≤◌, length, Some, IfSome, Ok}
 use Rattle.ldp_design.specs.Families.{AreGrids}
-use Rattle.ldp_design.specs.Limits.{most_tolerance}
-use Rattle.ldp_cells.specs.Cells.{CellList}
+use Rattle.ldp_design.specs.Limits.{most_budget, most_tolerance}
+use Rattle.ldp_cells.specs.Cells.{CellList, most_cells}
 use Rattle.ldp_problem.specs.Problem.{Problem}
 use Rattle.ldp_job.specs.declared.names.Names.{Names}
 use Rattle.ldp_job.specs.declared.job.Job.{Job}
@@ -13,13 +13,13 @@ use Rattle.ldp_optimum.specs.Best.{Ranked, best}
 use Rattle.ldp_optimum.specs.Forest.{needed}
 use Rattle.ldp_agreement.specs.Certificates.{IsCertificateOf}
 
--- what certificates ask of a problem, so that they have a text: there is a cell, at most 200,000
--- cells and at most a million nodes; the tolerance, in units of 10^-15, is at most 1
+-- what certificates ask of a problem, so that they have a text: there is a cell, and neither
+-- the cells nor the nodes are too many; the tolerance, in units of 10^-15, is at most 1
 pub record IsPrintable (p : Problem) : Type 0 where
   pub grids : AreGrids p.families
   pub some_cell : 0 < p.cells
-  pub few_cells : p.cells ≤ 200_000
-  pub few_nodes : needed p ≤ 1_000_000
+  pub few_cells : p.cells ≤ most_cells
+  pub few_nodes : needed p ≤ most_budget
   pub tolerance : IfSome p.tolerance (λ t. t ≤ most_tolerance)
 
 -- what they ask of their own names, worst distortion and report

@@ -5,10 +5,10 @@ use Rattle.std.proofs.Common.{[], Result, IfErr}
 use Rattle.std.proofs.lemmas.Bool.Decides.{nat_tests}
 use Rattle.std.proofs.lemmas.Int.{ints}
 use Rattle.std.specs.Prelude.{option_map, unsigned_abs, nat_lt, if◌then◌else◌}
-use Rattle.ldp_quantity.specs.Between.{IsBetween}
 use Rattle.ldp_design.specs.declared.family.Family.{Family}
 use Rattle.ldp_design.specs.Families.{AreGrids}
-use Rattle.ldp_cells.specs.Cells.{CellList}
+use Rattle.ldp_design.specs.Limits.{most_budget, most_tolerance, IsTolerance}
+use Rattle.ldp_cells.specs.Cells.{CellList, most_cells}
 use Rattle.ldp_problem.specs.Problem.{Problem}
 use Rattle.ldp_problem.specs.Costs.{cost, worst_cell}
 use Rattle.ldp_job.specs.declared.names.Names.{Names}
@@ -96,10 +96,10 @@ named_so None = inl refl
 named_so (Some names) = inr refl
 
 printable : (families : List Family) (list : CellList) (tolerance : Option ℤ) (budget : ℕ)
-    → AreGrids families → 0 < length list.cells → length list.cells ≤ 200_000
-    → IfSome tolerance (IsBetween (pos 0) (pos (10 ^ 15)))
+    → AreGrids families → 0 < length list.cells → length list.cells ≤ most_cells
+    → IfSome tolerance IsTolerance
     → needed (problem_over families list.cells (option_map unsigned_abs tolerance)) ≤ budget
-    → budget ≤ 1_000_000
+    → budget ≤ most_budget
     → IsPrintable (problem_over families list.cells (option_map unsigned_abs tolerance))
 printable families list tolerance budget g some few within enough most = record {
   grids = g;
@@ -109,8 +109,8 @@ printable families list tolerance budget g some few within enough most = record 
   tolerance = small tolerance within;
 }
   where
-    small : (t : Option ℤ) → IfSome t (IsBetween (pos 0) (pos (10 ^ 15)))
-        → IfSome (option_map unsigned_abs t) (λ n. n ≤ 1_000_000_000_000_000)
+    small : (t : Option ℤ) → IfSome t IsTolerance
+        → IfSome (option_map unsigned_abs t) (λ n. n ≤ most_tolerance)
     small None h = tt
     small (Some z) h = omega (arith, ints, h.0, h.1)
 
@@ -125,9 +125,9 @@ pub record IsKnown (families : List Family) (list : CellList) (names : Option Na
     (tolerance : Option ℤ) (budget : ℕ) (f : Found) (j : Job) : Type 0 where
   pub grids : AreGrids families
   pub some : 0 < length list.cells
-  pub few : length list.cells ≤ 200_000
-  pub within : IfSome tolerance (IsBetween (pos 0) (pos (10 ^ 15)))
-  pub most : budget ≤ 1_000_000
+  pub few : length list.cells ≤ most_cells
+  pub within : IfSome tolerance IsTolerance
+  pub most : budget ≤ most_budget
   pub printed : IsPrinted (problem_over families list.cells (option_map unsigned_abs tolerance))
       list names tolerance budget f j
   pub values : AreValues j

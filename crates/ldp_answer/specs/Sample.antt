@@ -6,6 +6,7 @@ use Rattle.ldp_spelling.specs.Pieces.{lines, text_of}
 use Rattle.ldp_zone.specs.Grammar.{zone_of}
 use Rattle.ldp_heights.specs.Reading.{heights_of}
 use Rattle.ldp_cells.specs.Cells.{CellList}
+use Rattle.ldp_design.specs.Limits.{most_budget}
 use Rattle.ldp_job.specs.declared.names.Names.{Names}
 use Rattle.ldp_job.specs.declared.job.Job.{Job}
 use Rattle.ldp_job.specs.Texts.{job_text}
@@ -17,10 +18,6 @@ use Rattle.ldp_answer.specs.Check.{verdict_over, check_text}
 use Rattle.ldp_answer.specs.Design.{job_over}
 use Rattle.ldp_answer.specs.SampleInputs.{sample_zone, sample_grid, sample_families}
 use Rattle.ldp_answer.specs.declared.answer.Answer.{Answer}
-
--- the most nodes of the search
-abbrev pub sample_budget : ℕ
-sample_budget = 1_000_000
 
 -- hashes for the checker; a job of version 1 names no files, so its verdict is the same whatever
 -- they are
@@ -51,7 +48,7 @@ sample_text n j checked = sample_line n ++ (report_lines (job_text j) ++ checked
 abbrev pub sample_over : ℕ → Result Answer Refusal
 sample_over n = do
   list ← sample_cells n
-  j ← job_over list (sample_families n) None sample_budget None
+  j ← job_over list (sample_families n) None most_budget None
   Ok record {
     rejected = false;
     text = sample_text n j (check_text (verdict_over list (sample_families n) no_files j)).text;

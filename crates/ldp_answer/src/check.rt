@@ -1,6 +1,6 @@
 ghost use Rattle.std.specs.Prelude.{◌≡◌, ◌<◌, false, pos, unsigned_abs, length, option_map};
 ghost use Rattle.std.specs.Prelude.{IfSome, IfOk, Ok};
-ghost use Rattle.ldp_bound.specs.Plain.{IsTolerance};
+ghost use Rattle.ldp_design.specs.Limits.{IsTolerance};
 ghost use Rattle.ldp_job.specs.Values.{IsShare, IsJob};
 ghost use Rattle.ldp_check.specs.Verdicts.{IsProved};
 ghost use Rattle.ldp_answer.specs.Check.{tolerance_of, job_problem, verdict_over};

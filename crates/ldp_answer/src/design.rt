@@ -1,8 +1,8 @@
-ghost use Rattle.std.specs.Prelude.{◌≡◌, ◌<◌, ◌≤◌, ◌^◌, pos, length, IfOk, IfErr, IfSome, Ok, Err};
+ghost use Rattle.std.specs.Prelude.{◌≡◌, ◌<◌, ◌≤◌, length, IfOk, IfErr, IfSome, Ok, Err};
 ghost use Rattle.std.specs.Prelude.{Option, option_map, unsigned_abs};
-ghost use Rattle.ldp_quantity.specs.Between.{IsBetween};
 ghost use Rattle.ldp_cells.specs.Cells.{CellList};
 ghost use Rattle.ldp_design.specs.Designs.{IsAdmitted};
+ghost use Rattle.ldp_design.specs.Limits.{most_budget, IsTolerance};
 ghost use Rattle.ldp_problem.specs.Problem.{Problem};
 ghost use Rattle.ldp_problem.specs.Costs.{IsUsable, cost};
 ghost use Rattle.ldp_job.specs.Values.{AreNames, IsWorst, IsJob};
@@ -39,8 +39,8 @@ pub fn design_over(
 ) -> Result<Answer, WorkFault>
     requires some { 0 < length cells.now.cells }
     requires names { AreNames names.now }
-    requires few { budget ≤ 1_000_000 }
-    requires tolerance { IfSome tolerance (IsBetween (pos 0) (pos (10 ^ 15))) }
+    requires few { budget ≤ most_budget }
+    requires tolerance { IfSome tolerance IsTolerance }
     ensures answer { Works result (design_over cells.now grids.now.families names.now budget
         (option_map unsigned_abs tolerance)) }
     ensures accepted { IfOk result (λ answer.
@@ -66,8 +66,8 @@ pub fn job_over(
 ) -> Result<Job, WorkFault>
     requires some { 0 < length cells.now.cells }
     requires names { IfSome names AreNames }
-    requires few { budget ≤ 1_000_000 }
-    requires tolerance { IfSome tolerance (IsBetween (pos 0) (pos (10 ^ 15))) }
+    requires few { budget ≤ most_budget }
+    requires tolerance { IfSome tolerance IsTolerance }
     ensures job { Works result (job_over cells.now grids.now.families names budget
         (option_map unsigned_abs tolerance)) }
     ensures valid { IfOk result IsJob }
@@ -87,8 +87,8 @@ fn found_over(
     tolerance: Option<i128>,
 ) -> Result<Found, WorkFault>
     requires some { 0 < length cells.now.cells }
-    requires few { budget ≤ 1_000_000 }
-    requires tolerance { IfSome tolerance (IsBetween (pos 0) (pos (10 ^ 15))) }
+    requires few { budget ≤ most_budget }
+    requires tolerance { IfSome tolerance IsTolerance }
     ensures found { IfOk result (IsFound
         (problem_over grids.now.families cells.now.cells (option_map unsigned_abs tolerance))
         budget) }
@@ -113,7 +113,7 @@ fn found_by(
     budget: u32,
 ) -> Result<Found, WorkFault>
     requires grids { (⟦<Plain as Bounds>⟧.problem bounds.old).families ≡ grids.now.families }
-    requires few { budget ≤ 1_000_000 }
+    requires few { budget ≤ most_budget }
     ensures found { IfOk result (IsFound (⟦<Plain as Bounds>⟧.problem bounds.old) budget) }
     ensures admitted { IfOk result (λ f. IsAdmitted grids.now.families f.design) }
     ensures cost { IfOk result (HasCost (⟦<Plain as Bounds>⟧.problem bounds.old)) }
@@ -154,8 +154,8 @@ fn certificate(
 ) -> Job
     requires some { 0 < length cells.now.cells }
     requires names { IfSome names AreNames }
-    requires few { budget ≤ 1_000_000 }
-    requires tolerance { IfSome tolerance (IsBetween (pos 0) (pos (10 ^ 15))) }
+    requires few { budget ≤ most_budget }
+    requires tolerance { IfSome tolerance IsTolerance }
     requires found { IsFound
         (problem_over grids.now.families cells.now.cells (option_map unsigned_abs tolerance))
         budget found }
@@ -187,7 +187,7 @@ fn job_of(
     requires admitted { IsAdmitted grids.now.families found.design }
     requires cell { found.cell < length cells.now.cells }
     requires names { IfSome names AreNames }
-    requires tolerance { IfSome tolerance (IsBetween (pos 0) (pos (10 ^ 15))) }
+    requires tolerance { IfSome tolerance IsTolerance }
     requires worst { IsWorst found.worst }
     ensures names { result.names ≡ names }
     ensures design { result.design ≡ found.design }
@@ -218,7 +218,7 @@ fn job_of(
 
 /// Where cells beyond a tolerance are counted, their number and the tolerance.
 fn share_with(tolerance: Option<i128>, over: u32) -> Option<Share>
-    requires { IfSome tolerance (IsBetween (pos 0) (pos (10 ^ 15))) }
+    requires { IfSome tolerance IsTolerance }
     ensures { result ≡ share_of (option_map unsigned_abs tolerance) over }
 {
     match tolerance {

@@ -14,12 +14,10 @@ use crate::sample_cells::sample_cells;
 use crate::sample_family::sample_grids;
 use itoa::Buffer;
 use ldp_decimal::{Memory, Text};
+use ldp_design::MOST_BUDGET;
 use ldp_job::{Job, Names, write_job};
 use ldp_spelling::Lines;
 use std::alloc::Global;
-
-/// The most nodes of the search.
-const BUDGET: u32 = 1_000_000;
 
 /// The lines of a certificate before its forest, but for the version.
 const REPORT_LINES: usize = 11;
@@ -41,7 +39,7 @@ pub fn sample_over(alloc: Global, number: u32) -> Result<Answer, WorkFault>
 {
     let cells = sample_cells(alloc, number)?;
     let grids = sample_grids(alloc, number)?;
-    let job = job_over(alloc, &cells, &grids, None, BUDGET, None)?;
+    let job = job_over(alloc, &cells, &grids, None, MOST_BUDGET, None)?;
     let checked = check_over(alloc, &cells, &grids, &NO_FILES, &job)?;
     let text = sample_text(alloc, number, &job, checked.text.bytes())?;
     Ok(Answer {

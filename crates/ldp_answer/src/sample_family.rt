@@ -4,6 +4,7 @@ ghost use Rattle.ldp_design.specs.Grids.{plain_grids};
 ghost use Rattle.ldp_answer.specs.SampleInputs.{IsSampleNumber, sample_family, sample_families};
 
 use ldp_design::{Axis, Family, Grids, Kind};
+use ldp_num::ONE;
 use std::alloc::{AllocError, Global};
 
 /// The designs of a sample.
@@ -32,7 +33,7 @@ fn sample_family(number: u32) -> Family
         },
         azimuth: single(0),
         scale: Axis {
-            from: 1_000_000_000_000_000,
+            from: ONE,
             step: step_of(400_000_000_000, number),
             count: number,
         },

@@ -68,11 +68,6 @@ least_size (Some range) = unsigned_abs (pair_low_abs range)
 abbrev pub lower_at : List Family → List Cell → DesignBox → ℕ → ℕ
 lower_at families cells b i = least_size (range_at families cells b i)
 
--- a tolerance in units of 10^-15: from 0 to a million parts per million
-pub record IsTolerance (tolerance : ℤ) : Type 0 where
-  pub low : pos 0 ≤ℤ tolerance
-  pub high : tolerance ≤ℤ pos 1_000_000_000_000_000
-
 -- the problem over these families and cells; the tolerance is in units of 10^-15
 abbrev pub plain_problem : List Family → List Cell → Option ℕ → Problem
 plain_problem families cells tolerance = record {

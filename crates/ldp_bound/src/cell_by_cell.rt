@@ -24,7 +24,8 @@ pub struct CellByCell {
 }
 
 impl CellByCell {
-    ghost use Rattle.ldp_bound.specs.Plain.{IsTolerance, plain_problem};
+    ghost use Rattle.ldp_design.specs.Limits.{IsTolerance};
+    ghost use Rattle.ldp_bound.specs.Plain.{plain_problem};
 
     /// Prepares the cells for the kinds of the families. The tolerance, up to 10^15, is in units of
     /// 10^-15.

@@ -1,5 +1,5 @@
 ghost use Rattle.std.specs.Prelude.{◌≡◌, ◌≤ℤ◌, pos, IfSome, option_map, unsigned_abs};
-ghost use Rattle.ldp_bound.specs.Plain.{IsTolerance};
+ghost use Rattle.ldp_design.specs.Limits.{IsTolerance};
 
 /// A tolerance as a natural number, in units of 10^-15.
 pub(crate) fn units(tolerance: Option<i128>) -> Option<u64>

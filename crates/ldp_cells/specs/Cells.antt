@@ -14,6 +14,10 @@ use Rattle.ldp_cells.specs.declared.cell.Cell.{Cell}
 use Rattle.ldp_cells.specs.declared.fault.CellsFault.{CellsFault}
 use Rattle.ldp_cells.specs.declared.fault.CellsFault.TheVariants.{TooManyCells}
 
+-- the greatest number of cells
+abbrev pub most_cells : ℕ
+most_cells = 200_000
+
 -- the point lies in the zone
 unfoldable pub in_zone : List (List Point) → Point → Bool
 in_zone rings at = inside rings at.x at.y
@@ -67,10 +71,10 @@ pub record CellList : Type 0 where
   pub cells : List Cell
   pub missing : ℕ
 
--- the cells, if they are at most 200,000
+-- the cells, if they are not too many
 abbrev pub within_limit : CellList → Result CellList CellsFault
 within_limit list =
-    if nat_le (length list.cells) 200_000 then Ok list else Err (TooManyCells (length list.cells))
+    if nat_le (length list.cells) most_cells then Ok list else Err (TooManyCells (length list.cells))
 
 -- the cells among the places of a grid whose centres pass the test, or that they are too many
 unfoldable pub cells_where : (Point → Bool) → HeightGrid → Result CellList CellsFault

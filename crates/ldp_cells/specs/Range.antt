@@ -3,7 +3,7 @@ use Rattle.std.specs.Prelude.{◌≤◌, length, All, Some, ℤ, neg_ℤ, ◌+�
 use Rattle.ldp_quantity.specs.Between.{IsBetween}
 use Rattle.ldp_heights.specs.Grid.{IsHeight, metres}
 use Rattle.ldp_zone.specs.Area.{IsNear}
-use Rattle.ldp_cells.specs.Cells.{CellList}
+use Rattle.ldp_cells.specs.Cells.{CellList, most_cells}
 use Rattle.ldp_cells.specs.declared.cell.Cell.{Cell}
 
 -- the height is one that a grid may have: at most 100,000 m in absolute value
@@ -20,9 +20,9 @@ pub record IsInRange (cell : Cell) : Type 0 where
   pub near : IsNear record { x = cell.x; y = cell.y }
   pub height : IsBetween (neg_ℤ (metres 101_000)) (metres 101_000) cell.mm
 
--- at most 200,000 cells, each in range
+-- not too many cells, each in range
 pub record IsCellList (list : CellList) : Type 0 where
-  pub few : length list.cells ≤ 200_000
+  pub few : length list.cells ≤ most_cells
   pub in_range : All IsInRange list.cells
 
 -- a cell whose height is so many millimetres more

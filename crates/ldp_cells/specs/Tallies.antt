@@ -5,11 +5,11 @@ use Rattle.std.specs.Prelude.{if◌then◌else◌}
 use Rattle.std.specs.List.{range_with_len}
 use Rattle.ldp_heights.specs.Grid.{HeightGrid, place_height}
 use Rattle.ldp_zone.specs.declared.point.Point.{Point}
-use Rattle.ldp_cells.specs.Cells.{cell_with, cell_at, is_gap, cells_among, gaps_among}
+use Rattle.ldp_cells.specs.Cells.{cell_with, cell_at, is_gap, cells_among, gaps_among, most_cells}
 use Rattle.ldp_cells.specs.Range.{IsInRange, HasGridHeight}
 use Rattle.ldp_cells.specs.declared.cell.Cell.{Cell}
 
--- the cells found, as long as there are at most 200,000; how many there are; and how many places
+-- the cells found, as long as they are not too many; how many there are; and how many places
 -- beside them lie in the region and have no height
 pub record Tally : Type 0 where
   pub cells : List Cell
@@ -19,7 +19,7 @@ pub record Tally : Type 0 where
 -- what every tally keeps
 pub record IsKept (tally : Tally) : Type 0 where
   pub few : length tally.cells ≤ tally.count
-  pub most : length tally.cells ≤ 200_000
+  pub most : length tally.cells ≤ most_cells
   pub in_range : All IsInRange tally.cells
   pub heights : All HasGridHeight tally.cells
 
@@ -27,7 +27,7 @@ pub record IsKept (tally : Tally) : Type 0 where
 abbrev pub with_height : HeightGrid → ℕ → ℕ → Option ℤ → Tally → Tally
 with_height grid row col None tally = record tally { missing = tally.missing + 1 }
 with_height grid row col (Some mm) tally = record {
-  cells = if nat_lt tally.count 200_000 then tally.cells ++ cell_with grid row col mm ∷ []
+  cells = if nat_lt tally.count most_cells then tally.cells ++ cell_with grid row col mm ∷ []
       else tally.cells;
   count = tally.count + 1;
   missing = tally.missing;
@@ -56,5 +56,5 @@ pub record IsTally (test : Point → Bool) (grid : HeightGrid) (place : ℕ) (ta
     : Type 0 where
   pub count : tally.count + length (cells_from test grid place) ≡ length (cells_among test grid)
   pub missing : tally.missing + gaps_from test grid place ≡ gaps_among test grid
-  pub cells : tally.count ≤ 200_000
+  pub cells : tally.count ≤ most_cells
       → tally.cells ++ cells_from test grid place ≡ cells_among test grid

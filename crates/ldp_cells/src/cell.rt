@@ -1,6 +1,7 @@
 ghost use Rattle.std.specs.Prelude.{◌≡◌, ◌<◌, ◌≤◌, length, All, Some, slice_get, IfOk};
 ghost use Rattle.ldp_cells.specs.Range.{IsInRange, IsCellList, HasGridHeight, IsRise};
 ghost use Rattle.ldp_cells.specs.Range.{raised, raised_cell};
+ghost use Rattle.ldp_cells.specs.Cells.{most_cells};
 
 use std::alloc::{AllocError, Global};
 use std::marker::Model;
@@ -60,7 +61,7 @@ impl Model for Cells {
 
 impl Cells {
     pub(crate) fn new(cells: Vec<Cell>, missing: u32) -> Self
-        requires few { length cells.items ≤ 200_000 }
+        requires few { length cells.items ≤ most_cells }
         requires in_range { All IsInRange cells.items }
         ensures { result ≡ record { cells = cells.items; missing = missing } }
     {
@@ -70,7 +71,7 @@ impl Cells {
     /// The number of cells.
     pub fn len(&self) -> u32
         ensures value { result ≡ length self.now.cells }
-        ensures few { result ≤ 200_000 }
+        ensures few { result ≤ most_cells }
         ensures keeps { IsCellList self.now }
     {
         self.cells.len() as u32

@@ -7,10 +7,8 @@ ghost use Rattle.ldp_centred.specs.Lowest.{middle, offset_range, item_input};
 use crate::known::Known;
 use crate::number::{high, low, spanned};
 use crate::slopes::Slopes;
+use ldp_num::ONE;
 use ldp_range::{Range, sharp};
-
-/// The units that make one.
-const ONE: i128 = 1_000_000_000_000_000;
 
 /// The middle of a range, rounded down.
 #[inline(always)]

@@ -4,17 +4,17 @@ use Rattle.std.specs.Prelude.{Option, None, Some, IfSome, option_map, option_and
 use Rattle.std.specs.Prelude.{if◌then◌else◌}
 use Rattle.std.specs.Result.{result_ok}
 use Rattle.ldp_spelling.specs.Numbers.{whole_in}
-use Rattle.ldp_design.specs.Limits.{most_tolerance}
-use Rattle.ldp_quantity.specs.Between.{IsBetween, number_from_to}
+use Rattle.ldp_design.specs.Limits.{most_budget, most_tolerance, IsTolerance}
+use Rattle.ldp_quantity.specs.Between.{number_from_to}
 use Rattle.ldp_cli.specs.declared.limits.Limits.{Limits}
 
 -- the budget, in nodes, if no word gives one
 abbrev pub usual_budget : ℕ
 usual_budget = 200_000
 
--- a budget from one node to a million, in digits alone and without a leading zero
+-- a budget of one node at least, in digits alone and without a leading zero
 abbrev pub budget_in : List ℕ → Option ℕ
-budget_in word = whole_in 1 1_000_000 word
+budget_in word = whole_in 1 most_budget word
 
 -- a tolerance from 0 to a million parts per million, in units of 10^-9 ppm, rounded
 abbrev pub share_in : List ℕ → Option ℤ
@@ -53,5 +53,5 @@ limits_in _ = None
 -- the ranges of both numbers
 pub record AreLimits (limits : Limits) : Type 0 where
   pub some : 1 ≤ limits.budget
-  pub few : limits.budget ≤ 1_000_000
-  pub tolerance : IfSome limits.tolerance (IsBetween (pos 0) (pos most_tolerance))
+  pub few : limits.budget ≤ most_budget
+  pub tolerance : IfSome limits.tolerance IsTolerance

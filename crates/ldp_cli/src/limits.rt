@@ -1,11 +1,10 @@
-ghost use Rattle.std.specs.Prelude.{◌≡◌, ◌≤◌, pos, map, string_bytes, IfSome, None, codes};
+ghost use Rattle.std.specs.Prelude.{◌≡◌, ◌≤◌, map, string_bytes, IfSome, None, codes};
 ghost use Rattle.std.specs.Prelude.{bytes_eq, if◌then◌else◌};
-ghost use Rattle.ldp_design.specs.Limits.{most_tolerance};
-ghost use Rattle.ldp_quantity.specs.Between.{IsBetween};
+ghost use Rattle.ldp_design.specs.Limits.{most_budget, IsTolerance};
 ghost use Rattle.ldp_cli.specs.Limits.{limits_in, budget_in, share_in, budget_alone, share_alone};
 ghost use Rattle.ldp_cli.specs.Limits.{budget_and_share, AreLimits};
 
-use ldp_design::MOST_TOLERANCE;
+use ldp_design::{MOST_BUDGET, MOST_TOLERANCE};
 use ldp_quantity::read_between;
 use ldp_spelling::read_whole;
 
@@ -77,15 +76,15 @@ fn budget_and_share(nodes: &[u8], ppm: &[u8]) -> Option<Limits>
 
 fn budget(word: &[u8]) -> Option<u32>
     ensures value { result ≡ budget_in word.now }
-    ensures range { IfSome result (λ budget. (1 ≤ budget) × (budget ≤ 1_000_000)) }
+    ensures range { IfSome result (λ budget. (1 ≤ budget) × (budget ≤ most_budget)) }
 {
-    let budget = read_whole(word, 1, 1_000_000)?;
+    let budget = read_whole(word, 1, u64::from(MOST_BUDGET))?;
     Some(budget as u32)
 }
 
 fn share(word: &[u8]) -> Option<i128>
     ensures value { result ≡ share_in word.now }
-    ensures range { IfSome result (IsBetween (pos 0) (pos most_tolerance)) }
+    ensures range { IfSome result IsTolerance }
 {
     read_between(word, 9, 0, i128::from(MOST_TOLERANCE)).ok()
 }

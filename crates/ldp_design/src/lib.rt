@@ -27,7 +27,7 @@ pub use grids::{Grids, admits, whole};
 pub use inputs::{Inputs4, inputs_at, inputs_of};
 pub use key::Key;
 pub use key_range::{GREATEST_AZIMUTH, KeyRange, LEAST_AZIMUTH, range_of};
-pub use limits::{MOST_FAMILIES, MOST_NODES, MOST_TOLERANCE};
+pub use limits::{MOST_BUDGET, MOST_FAMILIES, MOST_NODES, MOST_TOLERANCE};
 pub use node::Node;
 pub use parts::{cut_for, split};
 pub use rule::Rule;

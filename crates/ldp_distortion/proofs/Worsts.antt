@@ -16,7 +16,8 @@ use Rattle.ldp_distortion.specs.Distortion.{joined}
 use Rattle.ldp_distortion.specs.Prepared.{PreparedCells, distortions_of}
 use Rattle.ldp_distortion.specs.declared.inputs.Inputs.{Inputs}
 use Rattle.ldp_distortion.proofs.Joints.{no_design}
-use Rattle.ldp_distortion.specs.Worst.{largest, absolute_values, worst_at, worst_of}
+use Rattle.ldp_problem.specs.Costs.{largest}
+use Rattle.ldp_distortion.specs.Worst.{absolute_values, worst_at, worst_of}
 use Rattle.ldp_distortion.specs.declared.worst.Worst.{Worst}
 use Rattle.ldp_distortion.specs.declared.worst.Worst.TheVariants.{Is, Unusable}
 

@@ -1,20 +1,15 @@
 -- The worst of a design over cells: the largest absolute distortion. Own choice of this project.
-use Rattle.std.specs.Prelude.{ℕ, max, ◌<◌, ℤ, pos, nat_abs, List, [], ◌∷◌, ◌==◌, All, Option, Some}
+use Rattle.std.specs.Prelude.{ℕ, ◌<◌, ℤ, pos, nat_abs, List, All, Option, Some}
 use Rattle.std.specs.Prelude.{None, IsSome, position, filter_map, option_map}
 use Rattle.std.specs.Option.{is_none}
-use Rattle.std.specs.List.{position_or_len}
 use Rattle.ldp_num.specs.Number.{IsNumber}
+use Rattle.ldp_problem.specs.Costs.{largest, first_largest}
 use Rattle.ldp_distortion.specs.declared.worst.Worst.{Worst}
 use Rattle.ldp_distortion.specs.declared.worst.Worst.TheVariants.{Is, Unusable}
 
 -- a design is usable over cells where its distortion is defined at each
 abbrev pub IsUsable : List (Option ℤ) → Type 0
 IsUsable distortions = All (λ distortion. IsSome distortion) distortions
-
--- the largest of some numbers; 0 if there are none
-abbrev pub largest : List ℕ → ℕ
-largest [] = 0
-largest (n ∷ ns) = max n (largest ns)
 
 -- the absolute values of those distortions that are defined
 abbrev pub absolute_values : List (Option ℤ) → List ℕ
@@ -25,7 +20,7 @@ absolute_values distortions = filter_map (option_map nat_abs) distortions
 abbrev pub worst_at : Option ℕ → List ℕ → Worst
 worst_at (Some cell) values = Unusable cell
 worst_at None values =
-    Is (pos (largest values)) (position_or_len (λ value. value == largest values) values)
+    Is (pos (largest values)) (first_largest values)
 
 -- the worst of the distortions at the cells in order
 unfoldable pub worst_of : List (Option ℤ) → Worst

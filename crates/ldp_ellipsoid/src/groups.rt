@@ -4,7 +4,8 @@ ghost use Rattle.ldp_ellipsoid.specs.Ellipsoid.{second_eccentricity_squared, axi
 ghost use Rattle.ldp_ellipsoid.specs.Ellipsoid.{meridian, ground_factor};
 
 use crate::places::Geo;
-use ldp_series::{Build, Memory, ONE};
+use ldp_num::ONE;
+use ldp_series::{Build, Memory};
 
 /// 1/f, in units of 10^-9.
 const INVERSE_FLATTENING: i128 = 298_257_222_101;

@@ -13,10 +13,8 @@ use crate::number::{needed, read_count, read_number, read_step};
 use crate::place::Place;
 use crate::table::{has_axis_keys, value_at};
 use ldp_design::{Axis, Key, Kind, key_text, range_of};
+use ldp_num::ONE;
 use toml::{Table, Value};
-
-/// A scale factor of 1, in units of 10^-15.
-const NO_SCALE: i128 = 1_000_000_000_000_000;
 
 /// The axis of a key in a family's table.
 #[tactic(auto, unfolding(crate::specs::Axes::quantity_of))]
@@ -52,7 +50,7 @@ fn unless_given(key: Key) -> i128
     ensures { result ≡ unless_given key }
 {
     match key {
-        Key::Scale => NO_SCALE,
+        Key::Scale => ONE,
         Key::Top | Key::Family | Key::Kind => 0,
         Key::Lat | Key::Lat2 | Key::Lon | Key::Azimuth | Key::Origin => 0,
         Key::Easting | Key::Northing => 0,

@@ -4,7 +4,8 @@ ghost use Rattle.ldp_series.specs.Shape.{HasShape};
 ghost use Rattle.ldp_hotine.specs.Hotine.{near_centre, near_origin, above_a_sixteenth, joint_list};
 
 use crate::scale::{constant_n, constant_q, scale_factor};
-use ldp_series::{Build, List, Memory, ONE};
+use ldp_num::ONE;
+use ldp_series::{Build, List, Memory};
 use std::alloc::Global;
 
 /// 1/16, in units of 10^-15.

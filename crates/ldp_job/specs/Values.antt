@@ -7,7 +7,7 @@ use Rattle.ldp_spelling.specs.Hashes.{IsHash}
 use Rattle.ldp_design.specs.declared.design.Design.{Design}
 use Rattle.ldp_design.specs.declared.node.Node.{Node}
 use Rattle.ldp_design.specs.declared.node.Node.TheVariants.{Tree, Split, Leaf, Unusable}
-use Rattle.ldp_design.specs.Limits.{most_azimuth, most_tolerance}
+use Rattle.ldp_design.specs.Limits.{most_azimuth, IsTolerance}
 use Rattle.ldp_design.specs.Forests.{IsWellShaped}
 use Rattle.ldp_job.specs.declared.names.Names.{Names}
 use Rattle.ldp_job.specs.declared.report.Report.{Report}
@@ -47,7 +47,7 @@ IsWorst z = IsBetween (pos 0) (pos limit) z
 -- a number of cells, and a tolerance in units of 10^-15
 pub record IsShare (s : Share) : Type 0 where
   pub over : IsCount s.over
-  pub tolerance : IsBetween (pos 0) (pos most_tolerance) s.tolerance
+  pub tolerance : IsTolerance s.tolerance
 
 -- the ranges of what a user reads: angles in units of 10^-12 degrees, scale factor and worst in
 -- units of 10^-15

@@ -4,7 +4,8 @@ ghost use Rattle.ldp_series.specs.Shape.{HasShape};
 ghost use Rattle.ldp_lambert2.specs.LambertTwo.{within_domain, cone_constant, design_list};
 
 use ldp_ellipsoid::{geo, isometric, meridian};
-use ldp_series::{Build, List, Memory, ONE};
+use ldp_num::ONE;
+use ldp_series::{Build, List, Memory};
 use std::alloc::Global;
 
 /// 1/128, in units of 10^-15: the least difference of the isometric latitudes of the parallels.

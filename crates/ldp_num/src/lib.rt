@@ -17,7 +17,7 @@ mod units;
 
 pub use bench::Bench;
 pub use carrier::Num;
-pub use exact::LIMIT;
+pub use exact::{LIMIT, ONE};
 pub use fix::Fix;
 pub use plain::{add, need, sub};
 pub use product::{mul, sq};

@@ -5,7 +5,7 @@ ghost use Rattle.ldp_num.specs.Plain.{plain_mul, plain_sq};
 use crate::exact::{self, checked, exact, floor_of};
 
 /// The units that make one.
-const ONE: u64 = 1_000_000_000_000_000;
+const ONE: u64 = exact::ONE as u64;
 
 /// 2^112 / 10^15, rounded down.
 const INVERSE: u64 = 5_192_296_858_534_827_628;

@@ -2,6 +2,8 @@ ghost use Rattle.std.specs.Prelude.{◌≡◌, ◌*◌, ◌^◌, ◌≤ℤ◌, p
 ghost use Rattle.ldp_num.specs.Number.{IsNumber};
 ghost use Rattle.ldp_num.specs.Units.{radians_of, height_number};
 
+use crate::exact::ONE;
+
 /// Pi in units of 10^-15, rounded down.
 const PI: i128 = 3_141_592_653_589_793;
 
@@ -20,5 +22,5 @@ pub fn eta(mm: i32) -> i128
     ensures value { result ≡ height_number mm }
     ensures number { IsNumber result }
 {
-    (i128::from(mm) * 1_000_000_000_000_000).div_euclid(6_378_137_000)
+    (i128::from(mm) * ONE).div_euclid(6_378_137_000)
 }

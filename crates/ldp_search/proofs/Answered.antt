@@ -6,6 +6,7 @@ use Rattle.ldp_design.specs.declared.design.Design.{Design}
 use Rattle.ldp_design.specs.declared.family.Family.{Family}
 use Rattle.ldp_design.specs.declared.node.Node.{Node}
 use Rattle.ldp_design.specs.Designs.{IsAdmitted, design_cmp}
+use Rattle.ldp_design.specs.Limits.{most_budget}
 use Rattle.ldp_design.specs.Forests.{IsWellShaped}
 use Rattle.ldp_problem.specs.Problem.{Problem}
 use Rattle.ldp_problem.specs.Pairs.{AtMost}
@@ -89,7 +90,7 @@ module _ (p : Problem) (t : State) (c : Candidate) (done : IsDone p t) (e : t.be
       best_first p (ranked_of c) d best_is (subst (λ fs. IsAdmitted fs d) (sym same) a) u
       (tie ∙ sym (cost_is p c (done.candidate c e)))
 
-  pub shape_found : (budget : ℕ) (written : List Node) → t.evaluated ≤ budget → budget ≤ 1_000_000
+  pub shape_found : (budget : ℕ) (written : List Node) → t.evaluated ≤ budget → budget ≤ most_budget
       → written ≡ forest p → IsWellShaped written
   shape_found budget written within few all =
       subst IsWellShaped (sym all) (record {

@@ -3,6 +3,7 @@ ghost use Rattle.std.specs.Ordering.{is_lt};
 ghost use Rattle.ldp_design.specs.declared.design.Design.{Design};
 ghost use Rattle.ldp_design.specs.Designs.{IsAdmitted, design_cmp};
 ghost use Rattle.ldp_design.specs.Forests.{IsWellShaped};
+ghost use Rattle.ldp_design.specs.Limits.{most_budget};
 ghost use Rattle.ldp_problem.specs.Pairs.{AtMost};
 ghost use Rattle.ldp_problem.specs.Costs.{IsUsable, cost};
 ghost use Rattle.ldp_search.specs.Search.{IsFound, HasCost, IsFault, most_asked};
@@ -26,7 +27,7 @@ pub fn search<B: Bounds>(
     budget: u32,
 ) -> Result<Found, SearchFault>
     requires grids { (B.problem bounds.old).families ≡ grids.now.families }
-    requires few { budget ≤ 1_000_000 }
+    requires few { budget ≤ most_budget }
 
     // What is found is the best design and the canonical forest.
     ensures found { IfOk result (IsFound (B.problem bounds.old) budget) }

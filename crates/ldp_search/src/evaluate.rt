@@ -1,6 +1,7 @@
 ghost use Rattle.std.specs.Prelude.{◌≡◌, ◌+◌, ◌≤◌, ℕ, List, ◌∷◌, OnOk, IfErr};
 ghost use Rattle.ldp_design.specs.declared.design_box.DesignBox.{DesignBox};
 ghost use Rattle.ldp_design.specs.Boxes.{LiesIn};
+ghost use Rattle.ldp_design.specs.Limits.{most_budget};
 ghost use Rattle.ldp_search.specs.Explored.{Advances, IsExplored, IsStop};
 
 use crate::fault::SearchFault;
@@ -16,7 +17,7 @@ pub fn evaluate<B: Bounds>(
     b: &DesignBox,
 ) -> Result<(), SearchFault>
     requires lies { LiesIn (B.problem bounds.old).families b.now }
-    requires few { budget ≤ 1_000_000 }
+    requires few { budget ≤ most_budget }
     requires within { state.old.evaluated ≤ budget }
     ensures next { OnOk result (Advances (B.problem bounds.old) b.now state.old state.new) }
     ensures fault { IfErr result (λ e. (begun : ℕ) (pending : List DesignBox)

@@ -1,4 +1,5 @@
 ghost use Rattle.std.specs.Prelude.{◌≡◌, ◌+◌, ◌≤◌, [], None, OnOk, IfErr};
+ghost use Rattle.ldp_design.specs.Limits.{most_budget};
 ghost use Rattle.ldp_search.specs.Explored.{IsReady, IsWaiting, IsDone, IsStop};
 
 use crate::evaluate::evaluate;
@@ -16,7 +17,7 @@ pub fn explore<B: Bounds>(
 ) -> Result<(), SearchFault>
     requires grids { (B.problem bounds.old).families ≡ grids.now.families }
     requires fresh { state.old ≡ record { frontier = []; best = None; evaluated = 0 } }
-    requires few { budget ≤ 1_000_000 }
+    requires few { budget ≤ most_budget }
     ensures done { OnOk result (IsDone (B.problem bounds.old) state.new) }
     ensures fault { IfErr result (IsStop (B.problem bounds.old) budget) }
     ensures within { state.new.evaluated ≤ budget }
@@ -36,7 +37,7 @@ fn begin_all<B: Bounds>(
 ) -> Result<(), SearchFault>
     requires grids { (B.problem bounds.old).families ≡ grids.now.families }
     requires fresh { state.old ≡ record { frontier = []; best = None; evaluated = 0 } }
-    requires few { budget ≤ 1_000_000 }
+    requires few { budget ≤ most_budget }
     ensures next { OnOk result (IsWaiting (B.problem bounds.old) state.new) }
     ensures fault { IfErr result (IsStop (B.problem bounds.old) budget) }
     ensures within { state.new.evaluated ≤ budget }
@@ -58,7 +59,7 @@ fn close_all<B: Bounds>(
 ) -> Result<(), SearchFault>
     requires grids { (B.problem bounds.old).families ≡ grids.now.families }
     requires waiting { IsWaiting (B.problem bounds.old) state.old }
-    requires few { budget ≤ 1_000_000 }
+    requires few { budget ≤ most_budget }
     requires within { state.old.evaluated ≤ budget }
     ensures done { OnOk result (IsDone (B.problem bounds.old) state.new) }
     ensures fault { IfErr result (IsStop (B.problem bounds.old) budget) }
@@ -83,7 +84,7 @@ fn split_box<B: Bounds>(
 ) -> Result<(), SearchFault>
     requires grids { (B.problem bounds.old).families ≡ grids.now.families }
     requires ready { IsReady (B.problem bounds.old) b.now state.old }
-    requires few { budget ≤ 1_000_000 }
+    requires few { budget ≤ most_budget }
     requires within { state.old.evaluated ≤ budget }
     ensures next { OnOk result (IsWaiting (B.problem bounds.old) state.new) }
     ensures fault { IfErr result (IsStop (B.problem bounds.old) budget) }

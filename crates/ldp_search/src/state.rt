@@ -1,5 +1,6 @@
 ghost use Rattle.std.specs.Prelude.{◌≡◌, ◌+◌, ◌<◌, [], ◌∷◌, true, false, OnOk, IfSome, IfNone};
 ghost use Rattle.std.specs.List.Sorted.{IsPermutation};
+ghost use Rattle.ldp_design.specs.Limits.{most_budget};
 ghost use Rattle.ldp_problem.specs.Problem.{Problem};
 ghost use Rattle.ldp_problem.specs.Costs.{bound_of};
 ghost use Rattle.ldp_optimum.specs.Forest.{is_above};
@@ -38,7 +39,7 @@ impl State {
 
     /// Takes in the bound of a box.
     pub fn take(&mut self, b: &DesignBox, bound: Bound) -> Result<(), AllocError>
-        requires { self.old.evaluated < 1_000_000 }
+        requires { self.old.evaluated < most_budget }
         ensures next { OnOk result ((p : Problem) → bound ≡ bound_of p b.now
             → Advances p b.now self.old self.new) }
         ensures evaluated { self.new.evaluated ≡ self.old.evaluated + 1 }

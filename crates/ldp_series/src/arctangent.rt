@@ -3,7 +3,8 @@ ghost use Rattle.ldp_series.specs.Draft.{HasRoom, Appends, Extends};
 ghost use Rattle.ldp_series.specs.Series.{repeated, half_angle, arctangent};
 
 use crate::Memory;
-use crate::build::{Build, ONE};
+use crate::build::Build;
+use ldp_num::ONE;
 
 /// (-1)^k / (2k + 1) for k = 0 to 10, in units of 10^-15, rounded down: a quotient below 0 is
 /// rounded toward 0, so 1 is taken away.

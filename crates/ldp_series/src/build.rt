@@ -7,12 +7,9 @@ ghost use Rattle.ldp_series.specs.StepList.{started, finished};
 
 use crate::Memory;
 use crate::list::List;
-use ldp_num::{MOST_STEPS, Step};
+use ldp_num::{MOST_STEPS, ONE, Step};
 use std::alloc::Global;
 use std::marker::Model;
-
-/// One, in units of 10^-15.
-pub const ONE: i128 = 1_000_000_000_000_000;
 
 /// A list under construction: the number of its inputs, and its steps so far.
 #[derive(Drop)]

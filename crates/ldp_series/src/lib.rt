@@ -11,7 +11,7 @@ mod logarithm;
 mod run;
 mod series;
 
-pub use build::{Build, ONE};
+pub use build::Build;
 pub use cut_runs::CutRuns;
 pub use list::{List, Lists};
 pub use std::alloc::AllocError as Memory;

@@ -4,7 +4,8 @@ ghost use Rattle.ldp_series.specs.Formula.{#, √};
 ghost use Rattle.ldp_series.specs.Series.{repeated, difference_over_sum, logarithm};
 
 use crate::Memory;
-use crate::build::{Build, ONE};
+use crate::build::Build;
+use ldp_num::ONE;
 
 /// 1 / (2k + 1) for k = 0 to 9, in units of 10^-15, rounded down.
 const COEFFICIENTS: [i128; 10] = [

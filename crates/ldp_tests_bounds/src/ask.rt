@@ -1,18 +1,15 @@
 ghost use Rattle.std.specs.Prelude.{◌<◌, length, IfOk, IfSome};
-ghost use Rattle.ldp_bound.specs.Plain.{IsTolerance};
+ghost use Rattle.ldp_design.specs.Limits.{IsTolerance};
 
 use crate::bounders::{ask_plain, compare_both};
 use crate::texts::Texts;
 use anyhow::{Result, bail, ensure};
 use ldp_cells::{Cells, zone_cells};
-use ldp_design::Grids;
+use ldp_design::{Grids, MOST_TOLERANCE};
 use ldp_grids::read_grids;
 use ldp_heights::{Heights, read_heights};
 use ldp_zone::{Zone, read_zone};
 use std::alloc::Global;
-
-/// The greatest tolerance, in units of 10^-15.
-const MOST: i128 = 1_000_000_000_000_000;
 
 /// Prints what is answered to the questions of these texts, by one bounder or by both.
 pub fn ask(
@@ -53,7 +50,7 @@ fn tolerance_of(word: &str) -> Result<Option<i128>>
     }
     let units = word.parse::<i128>()?;
     ensure!(0 <= units, "no tolerance: {units}");
-    ensure!(units <= MOST, "no tolerance: {units}");
+    ensure!(units <= i128::from(MOST_TOLERANCE), "no tolerance: {units}");
     Ok(Some(units))
 }
 

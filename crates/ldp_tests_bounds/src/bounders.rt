@@ -1,5 +1,5 @@
 ghost use Rattle.std.specs.Prelude.{◌<◌, length, IfOk, IfSome};
-ghost use Rattle.ldp_bound.specs.Plain.{IsTolerance};
+ghost use Rattle.ldp_design.specs.Limits.{IsTolerance};
 ghost use Rattle.ldp_tests_bounds.specs.Over.{IsOver};
 
 use crate::compare::comparisons;

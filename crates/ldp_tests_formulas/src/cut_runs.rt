@@ -2,9 +2,9 @@ ghost use Rattle.std.specs.Prelude.{◌≡◌, IfOk};
 ghost use Rattle.ldp_series.specs.Shape.{HasShape};
 
 use crate::say::say_some;
-use crate::words::{ONE, numbers};
+use crate::words::numbers;
 use anyhow::Result;
-use ldp_num::{Fix, Num};
+use ldp_num::{Fix, Num, ONE};
 use ldp_series::{Build, CutRuns, List, Memory};
 use std::alloc::Global;
 

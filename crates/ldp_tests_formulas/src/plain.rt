@@ -1,9 +1,9 @@
 use crate::cut_runs::cut_runs;
 use crate::operation::{is_of_one, is_of_two};
 use crate::say::{say, say_none, say_some};
-use crate::words::{ONE, numbers};
+use crate::words::numbers;
 use anyhow::{Result, bail, ensure};
-use ldp_num::{Bench, Fix, Step, add, div, eta, mul, need, radians, sq, sqrt, sub};
+use ldp_num::{Bench, Fix, ONE, Step, add, div, eta, mul, need, radians, sq, sqrt, sub};
 
 pub fn answer(rt: &(impl Print + AllocGlobal), call: &str, rest: &str) -> Result<()> {
     match call {

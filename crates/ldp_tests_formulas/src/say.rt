@@ -1,6 +1,6 @@
-use crate::words::{ONE, numbers};
+use crate::words::numbers;
 use anyhow::{Result, bail};
-use ldp_num::Fix;
+use ldp_num::{Fix, ONE};
 
 /// Prints a number as a script has it.
 pub fn say(rt: &impl Print, number: i128) -> Result<()> {

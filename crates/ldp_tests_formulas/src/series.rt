@@ -4,8 +4,8 @@ ghost use Rattle.ldp_series.specs.Shape.{HasShape};
 use crate::say::{say, say_named};
 use crate::words::{halves, numbers};
 use anyhow::{Result, ensure};
-use ldp_num::{Bench, Fix, MOST_STEPS};
-use ldp_series::{Build, List, Memory, ONE};
+use ldp_num::{Bench, Fix, MOST_STEPS, ONE};
+use ldp_series::{Build, List, Memory};
 use std::alloc::Global;
 
 /// The names of the results, in order.

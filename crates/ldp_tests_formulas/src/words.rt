@@ -1,11 +1,5 @@
 use anyhow::{Context, Result, ensure};
-use ldp_num::Fix;
-
-/// 1, in units of 10^-15.
-pub const ONE: i128 = 1_000_000_000_000_000;
-
-/// The greatest number, in units of 10^-15.
-const LIMIT: i128 = 10_000_000_000_000_000_000;
+use ldp_num::{Fix, LIMIT, ONE};
 
 /// The word before the first blank, and what follows that.
 pub fn split(text: &str) -> (&str, &str) {

@@ -6,6 +6,7 @@ use ldp_bound::{Bound, Bounds, Plain};
 use ldp_cells::{Cells, zone_cells};
 use ldp_design::{Axis, DesignBox, Family, Grids, Kind, split, whole};
 use ldp_heights::read_heights;
+use ldp_num::ONE;
 use ldp_series::Memory;
 use ldp_zone::read_zone;
 use std::alloc::Global;
@@ -28,7 +29,7 @@ const ONE_VALUE: Axis = Axis {
 
 /// Scale factors from 1 to 1.001.
 const SCALES: Axis = Axis {
-    from: 1_000_000_000_000_000,
+    from: ONE,
     step: 5_000_000_000,
     count: 201,
 };

@@ -1,7 +1,4 @@
-use ldp_num::{Fix, Num, div, mul, sqrt};
-
-/// One, in units of 10^-15.
-const ONE: i128 = 1_000_000_000_000_000;
+use ldp_num::{Fix, Num, ONE, div, mul, sqrt};
 
 /// 1 - 10^-9: a million factors of it leave 0.999.
 const FACTOR: i128 = 999_999_999_000_000;

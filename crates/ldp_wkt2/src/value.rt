@@ -8,10 +8,8 @@ ghost use Rattle.ldp_wkt2.specs.Reading.{with_number, valued};
 use crate::crs::Crs;
 use crate::parameter::Parameter;
 use ldp_design::{Key, Kind, range_of};
+use ldp_num::ONE;
 use ldp_spelling::read_trimmed;
-
-/// A scale factor of 1, in 10^-15.
-const ONE: i128 = 1_000_000_000_000_000;
 
 /// The value of a key.
 pub fn value_of(key: Key, crs: &Crs) -> i128
