@@ -5,6 +5,7 @@
 mod error;
 mod input;
 mod known;
+pub mod laws;
 mod lowest;
 mod number;
 mod product;
