@@ -16,7 +16,7 @@ pub viewed : (r : Option Known) (f : Known → Known → Option Known) (k l m n 
 viewed r f k l m n p q e = rw (← p, ← q) e
 
 -- a number is what it is taken from
-number-is : (z n : ℤ) → number z ≡ Some n → n ≡ z
+pub number-is : (z n : ℤ) → number z ≡ Some n → n ≡ z
 number-is z n e = grind (arith, ints)
 
 -- a sum with the low end is at most one, some units more, with the high end

@@ -1,3 +1,4 @@
 pub mod Lowest
 pub mod Kept
 pub mod Laws
+pub mod Soundness
