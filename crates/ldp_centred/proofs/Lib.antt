@@ -11,3 +11,4 @@ mod Arithmetic
 mod Operations
 mod Divided
 mod Sound
+mod Least
