@@ -66,8 +66,14 @@ natural-error g paid n h = omega (arith, ints)
 
 pub square-split : (v k : ℤ) → (v +ℤ k) *ℤ (v -ℤ k) ≡ (v *ℤ v) -ℤ (k *ℤ k)
 square-split v k =
-    omega (arith, ints, times_difference (v +ℤ k) v k, sum_times v k v, sum_times v k k,
-    *ℤ_comm v k)
+    omega (
+      arith,
+      ints,
+      times_difference (v +ℤ k) v k,
+      sum_times v k v,
+      sum_times v k k,
+      *ℤ_comm v k,
+    )
 
 pub error-sq : (a r p e : ℤ) → pos 0 ≤ℤ e → pos (unsigned_abs a) ≤ℤ r → IsFloor (r *ℤ e) one p
     → ((pos (unsigned_abs a) *ℤ e) +ℤ pos one) ≤ℤ (pos one *ℤ (p +ℤ pos 2))

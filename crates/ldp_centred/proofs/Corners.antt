@@ -94,11 +94,11 @@ mul-corner r c v m x y s e =
     let own : LiesIn c (c, c) = record { low = ≤ℤ_refl c; high = ≤ℤ_refl c } in
     record {
       low = λ p q a b. let first = product-held r y t.first v q m b t.first_is in
-      let second = product-held (c, c) x t.second c p own a t.second_is in
-      omega (arith, ints, low, first.low, second.low);
+          let second = product-held (c, c) x t.second c p own a t.second_is in
+          omega (arith, ints, low, first.low, second.low);
       high = λ p q a b. let first = product-held r y t.first v q m b t.first_is in
-      let second = product-held (c, c) x t.second c p own a t.second_is in
-      omega (arith, ints, high, first.high, second.high);
+          let second = product-held (c, c) x t.second c p own a t.second_is in
+          omega (arith, ints, high, first.high, second.high);
     }
 
 nothing : (q : ℤ) → pos 0 *ℤ q ≡ pos 0
@@ -108,9 +108,9 @@ pub sq-corner : (sum : ℤ × ℤ) (a : ℤ) → LiesIn a sum
     → (x s : ℤ × ℤ) → outward (pair_mul sum x) ≡ Some s → Corner (pos one) a (pos 0) s x x
 sq-corner sum a m x s e = record {
   low = λ p q i j. let held = product-held sum x s a p m i e in
-  omega (arith, ints, held.low, nothing q);
+      omega (arith, ints, held.low, nothing q);
   high = λ p q i j. let held = product-held sum x s a p m i e in
-  omega (arith, ints, held.high, nothing q);
+      omega (arith, ints, held.high, nothing q);
 }
 
 -- a quotient of ranges, one unit further, by a number in the divisor
@@ -175,23 +175,23 @@ div-corner r near w k n m x y s e =
     let t = then-some (λ d. pair_div d r) inner o.0 o.1.0 in
     let u = then-some (pair_sub x) (outward (pair_mul near y)) t.0 t.1.0 in
     let whole : outward (pair_div t.0 r) ≡ Some s =
-        subst (λ (g : Option (ℤ × ℤ)). outward g ≡ Some s) (sym t.1.1) o.1.1 in
+    subst (λ (g : Option (ℤ × ℤ)). outward g ≡ Some s) (sym t.1.1) o.1.1 in
     record {
       low = λ p q a b. let d = dividend-held near x y u.0 t.0 k p q m a b u.1.0 u.1.1 in
-      let first : LiesIn t.0.0 t.0 = record { low = ≤ℤ_refl t.0.0; high = d.ordered } in
-      let held = quotient-held t.0 r s t.0.0 w first n whole in
-      omega (arith, ints, held.low, d.low);
+          let first : LiesIn t.0.0 t.0 = record { low = ≤ℤ_refl t.0.0; high = d.ordered } in
+          let held = quotient-held t.0 r s t.0.0 w first n whole in
+          omega (arith, ints, held.low, d.low);
       high = λ p q a b. let d = dividend-held near x y u.0 t.0 k p q m a b u.1.0 u.1.1 in
-      let last : LiesIn t.0.1 t.0 = record { low = d.ordered; high = ≤ℤ_refl t.0.1 } in
-      let held = quotient-held t.0 r s t.0.1 w last n whole in
-      omega (arith, ints, held.high, d.high);
+          let last : LiesIn t.0.1 t.0 = record { low = d.ordered; high = ≤ℤ_refl t.0.1 } in
+          let held = quotient-held t.0 r s t.0.1 w last n whole in
+          omega (arith, ints, held.high, d.high);
     }
 
 pub sqrt-corner : (sum : ℤ × ℤ) (n : ℤ) → LiesIn n sum
     → (x s : ℤ × ℤ) → outward (pair_div x sum) ≡ Some s → Corner n (pos one) (pos 0) s x x
 sqrt-corner sum n m x s e = record {
   low = λ p q i j. let held = quotient-held x sum s p n i m e in
-  omega (arith, ints, held.low, nothing q);
+      omega (arith, ints, held.low, nothing q);
   high = λ p q i j. let held = quotient-held x sum s p n i m e in
-  omega (arith, ints, held.high, nothing q);
+      omega (arith, ints, held.high, nothing q);
 }

@@ -42,12 +42,18 @@ pays-by n low cost quotient paid natural most is less =
     let spread = sum_times quotient (pos 1) low in
     let turned = *ℤ_comm low quotient in
     let up : pos 0 ≤ℤ (quotient +ℤ pos 1) =
-        times_cancel (pos 0) (quotient +ℤ pos 1) low above (omega (arith, ints)) in
+    times_cancel (pos 0) (quotient +ℤ pos 1) low above (omega (arith, ints)) in
     let grown = times_up low n (quotient +ℤ pos 1) less up in
     record {
       natural = omega (arith, ints, up);
-      enough = omega (arith, ints, grown, times_sum low quotient (pos 1),
-          times_sum n quotient (pos 1), times_sum n quotient (pos 2));
+      enough = omega (
+        arith,
+        ints,
+        grown,
+        times_sum low quotient (pos 1),
+        times_sum n quotient (pos 1),
+        times_sum n quotient (pos 2),
+      );
     }
 
 -- what a number times the divisor's error costs
@@ -85,9 +91,9 @@ div-pays range near w k e f g within held first second is =
     let a : ℤ = pos (unsigned_abs (neg_ℤ k)) in
     let less = magnitude-negated k (pair_high_abs near) (absolute-bounds k near held).greatest in
     let most = cost-of a (pair_high_abs near) e f q.0 s.0 second less
-        (product-floor (pair_high_abs near) f q.0 q.1.0) (omega (arith, ints, more, sum)) in
+    (product-floor (pair_high_abs near) f q.0 q.1.0) (omega (arith, ints, more, sum)) in
     let least = natural-paid e (a *ℤ f) first
-        (natural-times a f (natural-magnitude (neg_ℤ k)) second) in
+    (natural-times a f (natural-magnitude (neg_ℤ k)) second) in
     subst (Pays w ((pos one *ℤ e) +ℤ (a *ℤ f))) (sym whole)
     (pays-by w range.0 s.0 t.0 ((pos one *ℤ e) +ℤ (a *ℤ f)) least most
     (quotient-is s.0 range.0 t.0 s.1.1) within.low)
@@ -95,32 +101,57 @@ div-pays range near w k e f g within held first second is =
 -- minus k times a difference
 turned : (k w l : ℤ) → neg_ℤ k *ℤ (w -ℤ l) ≡ (l *ℤ k) -ℤ (w *ℤ k)
 turned k w l =
-    omega (arith, ints, *ℤ_comm (neg_ℤ k) (w -ℤ l), times_negated (w -ℤ l) k,
-    *ℤ_comm (w -ℤ l) k, times_difference k w l, *ℤ_comm k w, *ℤ_comm k l)
+    omega (
+      arith,
+      ints,
+      *ℤ_comm (neg_ℤ k) (w -ℤ l),
+      times_negated (w -ℤ l) k,
+      *ℤ_comm (w -ℤ l) k,
+      times_difference k w l,
+      *ℤ_comm k w,
+      *ℤ_comm k l,
+    )
 
 div-low : (v w k l u c e f g : ℤ) → IsQuotient v w u → IsQuotient k l c
     → Pays w ((pos one *ℤ e) +ℤ (pos (unsigned_abs (neg_ℤ c)) *ℤ f)) g
     → LowHolds w (pos one) (neg_ℤ c) (v -ℤ k) (w -ℤ l) e f (u -ℤ c) g
 div-low v w k l u c e f g value centre pays =
-    omega (arith, ints, turned c w l, times_sum w (u -ℤ c) g, times_difference w u c, value.high,
-    centre.low, pays.enough)
+    omega (
+      arith,
+      ints,
+      turned c w l,
+      times_sum w (u -ℤ c) g,
+      times_difference w u c,
+      value.high,
+      centre.low,
+      pays.enough,
+    )
 
 div-high : (v w k l u c e f g : ℤ) → IsQuotient v w u → IsQuotient k l c
     → Pays w ((pos one *ℤ e) +ℤ (pos (unsigned_abs (neg_ℤ (c +ℤ pos 1))) *ℤ f)) g
     → HighHolds w (pos one) (neg_ℤ (c +ℤ pos 1)) (v -ℤ k) (w -ℤ l) e f (u -ℤ c) g
 div-high v w k l u c e f g value centre pays =
-    omega (arith, ints, turned (c +ℤ pos 1) w l, times_sum w c (pos 1), times_sum l c (pos 1),
-    times_difference w u c, value.low, centre.high, pays.enough)
+    omega (
+      arith,
+      ints,
+      turned (c +ℤ pos 1) w l,
+      times_sum w c (pos 1),
+      times_sum l c (pos 1),
+      times_difference w u c,
+      value.low,
+      centre.high,
+      pays.enough,
+    )
 
 div-kept : (ts : List ℤ) (v w u : ℤ) (a b : ℤ × ℤ) (k l m : Known) → LiesIn w b
     → Describes ts v a k
     → Describes ts w b l → plain_div v w ≡ Some u → known_div b k l ≡ Some m → Answered ts u m
 div-kept ts v w u a b k l m within left right value made =
     let t = then-some (λ c. option_and_then (known_divided b k l c) (out (c, c)))
-        (plain_div k.centre l.centre) m made in
+    (plain_div k.centre l.centre) m made in
     let q = then-some (known_divided b k l t.0) (out (t.0, t.0)) m t.1.1 in
     let p = made-some (Some t.0) (error_div b q.0 k.error l.error)
-        (of_places (slope_div b q.0) k.slopes l.slopes) m q.1.1 in
+    (of_places (slope_div b q.0) k.slopes l.slopes) m q.1.1 in
     let same = same_Some t.0 m.centre p.centre in
     let near = out-some (t.0, t.0) q.0 q.1.0 in
     let floor : LiesIn m.centre q.0 = record {
@@ -134,13 +165,13 @@ div-kept ts v w u a b k l m within left right value made =
     let whole = quotient-is v w u value in
     let centre = quotient-is k.centre l.centre m.centre (t.1.0 ∙ p.centre) in
     let low-pays = div-pays b q.0 w m.centre k.error l.error m.error within floor left.error
-        right.error p.error in
+    right.error p.error in
     let high-pays = div-pays b q.0 w (m.centre +ℤ pos 1) k.error l.error m.error within next
-        left.error right.error p.error in
+    left.error right.error p.error in
     let low = cornered-two w (pos one) (neg_ℤ m.centre) (slope_div b q.0)
-        (div-corner b q.0 w m.centre within floor) k.slopes l.slopes m.slopes p.slopes in
+    (div-corner b q.0 w m.centre within floor) k.slopes l.slopes m.slopes p.slopes in
     let high = cornered-two w (pos one) (neg_ℤ (m.centre +ℤ pos 1)) (slope_div b q.0)
-        (div-corner b q.0 w (m.centre +ℤ pos 1) within next) k.slopes l.slopes m.slopes p.slopes in
+    (div-corner b q.0 w (m.centre +ℤ pos 1) within next) k.slopes l.slopes m.slopes p.slopes in
     answered ts u m w (pos one) (neg_ℤ m.centre) (pos one) (neg_ℤ (m.centre +ℤ pos 1))
     (v -ℤ k.centre) (w -ℤ l.centre) k.error l.error k.slopes l.slopes whole.above low-pays.natural
     low high (tells-of ts v a k left) (tells-of ts w b l right)
@@ -161,8 +192,15 @@ sqrt-low : (v k u c e g : ℤ) → IsRounded v u → IsRounded k c
     → Pays ((u +ℤ c) +ℤ pos 1) (pos one *ℤ e) g
     → LowHolds ((u +ℤ c) +ℤ pos 1) (pos one) (pos 0) (v -ℤ k) (v -ℤ k) e e (u -ℤ c) g
 sqrt-low v k u c e g value centre pays =
-    omega (arith, ints, root-split u c, times_sum ((u +ℤ c) +ℤ pos 1) (u -ℤ c) g, value.high,
-    centre.low, pays.enough)
+    omega (
+      arith,
+      ints,
+      root-split u c,
+      times_sum ((u +ℤ c) +ℤ pos 1) (u -ℤ c) g,
+      value.high,
+      centre.low,
+      pays.enough,
+    )
 
 sqrt-high : (v k u c e g : ℤ) → IsRounded v u → IsRounded k c
     → Pays ((u +ℤ c) +ℤ pos 1) (pos one *ℤ e) g
@@ -191,26 +229,26 @@ sqrt-kept : (ts : List ℤ) (v u : ℤ) (a r : ℤ × ℤ) (k m : Known) → Lie
     → plain_sqrt v ≡ Some u → known_sqrt r k ≡ Some m → Answered ts u m
 sqrt-kept ts v u a r k m within left value made =
     let t = then-some (λ c. option_and_then (known_root k c) (divisor r c)) (plain_sqrt k.centre) m
-        made in
+    made in
     let q = then-some (known_root k t.0) (divisor r t.0) m t.1.1 in
     let p = made-some (Some t.0) (plus (plain_div k.error q.0.0) (pos 2))
-        (of_each (λ x. outward (pair_div x q.0)) k.slopes) m q.1.1 in
+    (of_each (λ x. outward (pair_div x q.0)) k.slopes) m q.1.1 in
     let same = same_Some t.0 m.centre p.centre in
     let inside : LiesIn ((u +ℤ m.centre) +ℤ pos 1) q.0 =
-        subst (λ (c : ℤ). LiesIn ((u +ℤ c) +ℤ pos 1) q.0) same
-        (root-sum-within r q.0 u t.0 within q.1.0) in
+    subst (λ (c : ℤ). LiesIn ((u +ℤ c) +ℤ pos 1) q.0) same
+    (root-sum-within r q.0 u t.0 within q.1.0) in
     let whole = root-is-rounded v u value in
     let centre = root-is-rounded k.centre m.centre (t.1.0 ∙ p.centre) in
     let s = then-some (λ n. plain_add n (pos 2)) (plain_div k.error q.0.0) m.error p.error in
     let more = number-is (s.0 +ℤ pos 2) m.error s.1.1 in
     let pays : Pays ((u +ℤ m.centre) +ℤ pos 1) (pos one *ℤ k.error) m.error =
-        subst (Pays ((u +ℤ m.centre) +ℤ pos 1) (pos one *ℤ k.error)) (sym more)
-        (pays-by ((u +ℤ m.centre) +ℤ pos 1) q.0.0 k.error s.0 (pos one *ℤ k.error)
-        (natural-cost k.error left.error) (≤ℤ_refl (pos one *ℤ k.error))
-        (quotient-is k.error q.0.0 s.0 s.1.0) inside.low) in
+    subst (Pays ((u +ℤ m.centre) +ℤ pos 1) (pos one *ℤ k.error)) (sym more)
+    (pays-by ((u +ℤ m.centre) +ℤ pos 1) q.0.0 k.error s.0 (pos one *ℤ k.error)
+    (natural-cost k.error left.error) (≤ℤ_refl (pos one *ℤ k.error))
+    (quotient-is k.error q.0.0 s.0 s.1.0) inside.low) in
     let corners = cornered-one ((u +ℤ m.centre) +ℤ pos 1) (pos one)
-        (λ x. outward (pair_div x q.0))
-        (sqrt-corner q.0 ((u +ℤ m.centre) +ℤ pos 1) inside) k.slopes m.slopes p.slopes in
+    (λ x. outward (pair_div x q.0))
+    (sqrt-corner q.0 ((u +ℤ m.centre) +ℤ pos 1) inside) k.slopes m.slopes p.slopes in
     answered ts u m ((u +ℤ m.centre) +ℤ pos 1) (pos one) (pos 0) (pos one) (pos 0) (v -ℤ k.centre)
     (v -ℤ k.centre) k.error k.error k.slopes k.slopes
     (omega (arith, ints, whole.natural, centre.natural)) pays.natural corners corners

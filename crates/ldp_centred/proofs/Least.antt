@@ -68,18 +68,18 @@ formed from (s ∷ slopes) (b ∷ inputs) (x ∷ point) to order within e =
     let sum = both-some pair_add (Some from) (lean s b) begin.0 begin.1 in
     let same = unmoved from sum.first sum.first_is in
     let parts = ends-some (plain_add sum.first.0 sum.second.0)
-        (plain_add sum.first.1 sum.second.1) begin.0 sum.is in
+    (plain_add sum.first.1 sum.second.1) begin.0 sum.is in
     let low = number-is (sum.first.0 +ℤ sum.second.0) begin.0.0 parts.low in
     let high = number-is (sum.first.1 +ℤ sum.second.1) begin.0.1 parts.high in
     let near = offset-within x b within.0 in
     let first : LiesIn s.0 s = record { low = ≤ℤ_refl s.0; high = order.0 } in
     let last : LiesIn s.1 s = record { low = order.0; high = ≤ℤ_refl s.1 } in
     let left = product-held s (offset_range b) sum.second s.0 (offset x b) first near
-        sum.second_is in
+    sum.second_is in
     let right = product-held s (offset_range b) sum.second s.1 (offset x b) last near
-        sum.second_is in
+    sum.second_is in
     let rest = formed begin.0 slopes inputs point to order.1 within.1
-        (subst (λ (o : Option (ℤ × ℤ)). form_from o slopes inputs ≡ Some to) begin.1 e) in
+    (subst (λ (o : Option (ℤ × ℤ)). form_from o slopes inputs ≡ Some to) begin.1 e) in
     record {
       low = omega (arith, ints, clamps, rest.low, left.low, right.low, low, same.0);
       high = omega (arith, ints, clamps, rest.high, left.high, right.high, high, same.1);
@@ -99,14 +99,14 @@ form-holds : (point : List ℤ) (inputs : List (ℤ × ℤ)) (v : ℤ) (r f : �
     → form k inputs ≡ Some f → LiesIn v f
 form-holds point inputs v r f k within d e =
     let sum = both-some pair_add (form_from (Some (k.centre, k.centre)) k.slopes inputs)
-        (Some (neg_ℤ k.error, k.error)) f e in
+    (Some (neg_ℤ k.error, k.error)) f e in
     let same = unmoved (neg_ℤ k.error, k.error) sum.second sum.second_is in
     let parts = ends-some (plain_add sum.first.0 sum.second.0)
-        (plain_add sum.first.1 sum.second.1) f sum.is in
+    (plain_add sum.first.1 sum.second.1) f sum.is in
     let low = number-is (sum.first.0 +ℤ sum.second.0) f.0 parts.low in
     let high = number-is (sum.first.1 +ℤ sum.second.1) f.1 parts.high in
     let held = formed (k.centre, k.centre) k.slopes inputs point sum.first d.ordered within
-        sum.first_is in
+    sum.first_is in
     let bounds = d.bounds in
     record {
       low = form-low v k.centre k.error f.0 sum.first.0 (least_sum k.slopes (offsets point inputs))
@@ -159,7 +159,7 @@ between x y l h k e = omega (arith, ints)
 pub lowest-exact : LowestIsExact
 lowest-exact point inputs v a within meets one_number =
     let ordered : a.range.0 ≤ℤ a.range.1 =
-        subst (λ (r : ℤ × ℤ). r.0 ≤ℤ r.1) (sym one_number) (≤ℤ_refl v) in
+    subst (λ (r : ℤ × ℤ). r.0 ≤ℤ r.1) (sym one_number) (≤ℤ_refl v) in
     between (lowest a inputs) (magnitude v) (pair_low_abs a.range)
     (lowest-below point inputs v a within meets) (lowest-sharper inputs a ordered)
     (ap pair_low_abs one_number ∙ (absolute-of_one v).0)
@@ -221,10 +221,10 @@ pub input-meets : InputMeets
 input-meets place x b ts h within e = record {
   range = within;
   known = λ k is. subst (Describes ts x b) (same_Some _ k is)
-  (record {
-    centre = middle-within x b within;
-    error = ≤ℤ_refl (pos 0);
-    ordered = own-ordered 4 place;
-    bounds = own-bounds place x b ts h e;
-  });
+      (record {
+        centre = middle-within x b within;
+        error = ≤ℤ_refl (pos 0);
+        ordered = own-ordered 4 place;
+        bounds = own-bounds place x b ts h e;
+      });
 }

@@ -74,13 +74,13 @@ two-met ts f g h v w a b t holds left right centred kept e =
     let p = map-some (item (of_pair h a.known b.known)) (g a.range b.range) t e in
     let reached = holds v w a.range b.range p.0 left.range right.range p.1.0 in
     let centre = centred p.0 (λ k i. (left.known k i).centre) (λ k i. (right.known k i).centre)
-        p.1.0 in
+    p.1.0 in
     let met : Meets ts reached.value (item (of_pair h a.known b.known) p.0) = record {
       range = reached.related;
       known = λ m i. let q = both-some h a.known b.known m i in
-      described ts reached.value p.0 m (centre m i)
-      (kept q.first q.second m reached.value (left.known q.first q.first_is)
-      (right.known q.second q.second_is) reached.is q.is);
+          described ts reached.value p.0 m (centre m i)
+          (kept q.first q.second m reached.value (left.known q.first q.first_is)
+          (right.known q.second q.second_is) reached.is q.is);
     } in
     record {
       value = reached.value;
@@ -106,8 +106,8 @@ one-met ts f g h v a t holds left centred kept e =
     let met : Meets ts reached.value (item (option_and_then (h p.0) a.known) p.0) = record {
       range = reached.related;
       known = λ m i. let q = then-some (h p.0) a.known m i in
-      described ts reached.value p.0 m (centre m i)
-      (kept q.0 m p.0 reached.value (left.known q.0 q.1.0) reached.related reached.is q.1.1);
+          described ts reached.value p.0 m (centre m i)
+          (kept q.0 m p.0 reached.value (left.known q.0 q.1.0) reached.related reached.is q.1.1);
     } in
     record {
       value = reached.value;

@@ -43,7 +43,7 @@ add-kept ts v w u a b k l m left right value made =
     let error = number-is (k.error +ℤ l.error) m.error p.error in
     let whole = number-is (v +ℤ w) u value in
     let corners = cornered-two (pos 1) (pos 1) (pos 1) pair_add add-corner k.slopes l.slopes
-        m.slopes p.slopes in
+    m.slopes p.slopes in
     answered ts u m (pos 1) (pos 1) (pos 1) (pos 1) (pos 1) (v -ℤ k.centre) (w -ℤ l.centre) k.error
     l.error k.slopes l.slopes positive
     (natural-sum k.error l.error m.error error left.error right.error) corners corners
@@ -65,7 +65,7 @@ sub-kept ts v w u a b k l m left right value made =
     let error = number-is (k.error +ℤ l.error) m.error p.error in
     let whole = number-is (v -ℤ w) u value in
     let corners = cornered-two (pos 1) (pos 1) (neg_ℤ (pos 1)) pair_sub sub-corner k.slopes l.slopes
-        m.slopes p.slopes in
+    m.slopes p.slopes in
     answered ts u m (pos 1) (pos 1) (neg_ℤ (pos 1)) (pos 1) (neg_ℤ (pos 1)) (v -ℤ k.centre)
     (w -ℤ l.centre) k.error l.error k.slopes l.slopes positive
     (natural-sum k.error l.error m.error error left.error right.error) corners corners
@@ -92,13 +92,13 @@ mul-pays : (range : ℤ × ℤ) (v l e f g : ℤ) → LiesIn v range → pos 0 �
 mul-pays range v l e f g within natural is =
     let t = then-some (λ n. plain_add n (pos 3)) _ g is in
     let s = both-some plain_add (plain_mul (pair_high_abs range) f) (plain_mul (magnitude l) e) t.0
-        t.1.0 in
+    t.1.0 in
     let sum = number-is (s.first +ℤ s.second) t.0 s.is in
     let whole = number-is (t.0 +ℤ pos 3) g t.1.1 in
     let paid = error-mul v l (pair_high_abs range) s.first s.second e f natural
-        (absolute-bounds v range within).greatest
-        (product-floor (pair_high_abs range) f s.first s.first_is)
-        (product-floor (magnitude l) e s.second s.second_is) in
+    (absolute-bounds v range within).greatest
+    (product-floor (pair_high_abs range) f s.first s.first_is)
+    (product-floor (magnitude l) e s.second s.second_is) in
     let same : s.first +ℤ s.second +ℤ pos 3 ≡ g = omega (arith, ints, sum, whole) in
     subst (λ (x : ℤ). (((pos (unsigned_abs l) *ℤ e) +ℤ (pos (unsigned_abs v) *ℤ f)) +ℤ pos one)
     ≤ℤ (pos one *ℤ x)) same paid
@@ -113,10 +113,10 @@ mul-kept ts v w u a b k l m within left right value made =
     let paid : ℤ = (pos (unsigned_abs l.centre) *ℤ k.error) +ℤ (pos (unsigned_abs v) *ℤ l.error) in
     let pays = mul-pays a v l.centre k.error l.error m.error within right.error p.error in
     let least = natural-paid _ _
-        (natural-times (pos (unsigned_abs l.centre)) k.error (natural-magnitude l.centre) left.error)
-        (natural-times (pos (unsigned_abs v)) l.error (natural-magnitude v) right.error) in
+    (natural-times (pos (unsigned_abs l.centre)) k.error (natural-magnitude l.centre) left.error)
+    (natural-times (pos (unsigned_abs v)) l.error (natural-magnitude v) right.error) in
     let corners = cornered-two (pos one) l.centre v (slope_mul a l.centre)
-        (mul-corner a l.centre v within) k.slopes l.slopes m.slopes p.slopes in
+    (mul-corner a l.centre v within) k.slopes l.slopes m.slopes p.slopes in
     answered ts u m (pos one) l.centre v l.centre v (v -ℤ k.centre) (w -ℤ l.centre) k.error l.error
     k.slopes l.slopes one-positive (natural-error m.error paid least pays) corners corners
     (tells-of ts v a k left) (tells-of ts w b l right)
@@ -150,18 +150,18 @@ sq-kept ts v u a k m within left value made =
     let centre = product-floor k.centre k.centre m.centre p.centre in
     let whole = product-floor v v u value in
     let t = then-some (λ n. plain_add n (pos 2)) (plain_mul (pair_high_abs s.0) k.error) m.error
-        p.error in
+    p.error in
     let more = number-is (t.0 +ℤ pos 2) m.error t.1.1 in
     let paid : ℤ = pos (unsigned_abs (v +ℤ k.centre)) *ℤ k.error in
     let pays : (paid +ℤ pos one) ≤ℤ (pos one *ℤ m.error) =
-        subst (λ (x : ℤ). (paid +ℤ pos one) ≤ℤ (pos one *ℤ x)) (sym more)
-        (error-sq (v +ℤ k.centre) (pair_high_abs s.0) t.0 k.error left.error
-        (absolute-bounds (v +ℤ k.centre) s.0 inside).greatest
-        (product-floor (pair_high_abs s.0) k.error t.0 t.1.0)) in
+    subst (λ (x : ℤ). (paid +ℤ pos one) ≤ℤ (pos one *ℤ x)) (sym more)
+    (error-sq (v +ℤ k.centre) (pair_high_abs s.0) t.0 k.error left.error
+    (absolute-bounds (v +ℤ k.centre) s.0 inside).greatest
+    (product-floor (pair_high_abs s.0) k.error t.0 t.1.0)) in
     let least = natural-times (pos (unsigned_abs (v +ℤ k.centre))) k.error
-        (natural-magnitude (v +ℤ k.centre)) left.error in
+    (natural-magnitude (v +ℤ k.centre)) left.error in
     let corners = cornered-one (pos one) (v +ℤ k.centre) (λ x. outward (pair_mul s.0 x))
-        (sq-corner s.0 (v +ℤ k.centre) inside) k.slopes m.slopes p.slopes in
+    (sq-corner s.0 (v +ℤ k.centre) inside) k.slopes m.slopes p.slopes in
     answered ts u m (pos one) (v +ℤ k.centre) (pos 0) (v +ℤ k.centre) (pos 0) (v -ℤ k.centre)
     (v -ℤ k.centre) k.error k.error k.slopes k.slopes one-positive
     (natural-error m.error paid least pays) corners corners

@@ -100,15 +100,23 @@ opposite : (k : ℤ) (x y e : ℤ) → k ≤ℤ pos 0 → x ≤ℤ (y +ℤ e)
     → (k *ℤ y) ≤ℤ ((k *ℤ x) +ℤ (neg_ℤ k *ℤ e))
 opposite k x y e n h =
     let down = times_down x (y +ℤ e) k h n in
-    omega (arith, ints, *ℤ_comm x k, *ℤ_comm (y +ℤ e) k, times_sum k y e, *ℤ_comm (neg_ℤ k) e,
-    times_negated e k, *ℤ_comm e k)
+    omega (
+      arith,
+      ints,
+      *ℤ_comm x k,
+      *ℤ_comm (y +ℤ e) k,
+      times_sum k y e,
+      *ℤ_comm (neg_ℤ k) e,
+      times_negated e k,
+      *ℤ_comm e k,
+    )
 
 below-chosen : (a x e : ℤ) (xs : List (ℤ × ℤ)) (ts : List ℤ) → InOrder xs → AreBounds xs ts x e
     → Below a x e xs ts
 below-chosen (pos k) x e xs ts order bounds =
     let least = least-chosen xs ts order in
     let from : given least.slopes ts ≤ℤ (x +ℤ e) =
-        omega (arith, ints, least.gives, bounds.low) in
+    omega (arith, ints, least.gives, bounds.low) in
     record {
       slopes = least.slopes;
       within = least.within;
@@ -117,7 +125,7 @@ below-chosen (pos k) x e xs ts order bounds =
 below-chosen (negsuc k) x e xs ts order bounds =
     let greatest = greatest-chosen xs ts order in
     let from : x ≤ℤ (given greatest.slopes ts +ℤ e) =
-        omega (arith, ints, greatest.gives, bounds.high) in
+    omega (arith, ints, greatest.gives, bounds.high) in
     record {
       slopes = greatest.slopes;
       within = greatest.within;
@@ -129,7 +137,7 @@ above-chosen : (a x e : ℤ) (xs : List (ℤ × ℤ)) (ts : List ℤ) → InOrde
 above-chosen (pos k) x e xs ts order bounds =
     let greatest = greatest-chosen xs ts order in
     let from : x ≤ℤ (given greatest.slopes ts +ℤ e) =
-        omega (arith, ints, greatest.gives, bounds.high) in
+    omega (arith, ints, greatest.gives, bounds.high) in
     record {
       slopes = greatest.slopes;
       within = greatest.within;
@@ -138,7 +146,7 @@ above-chosen (pos k) x e xs ts order bounds =
 above-chosen (negsuc k) x e xs ts order bounds =
     let least = least-chosen xs ts order in
     let from : given least.slopes ts ≤ℤ (x +ℤ e) =
-        omega (arith, ints, least.gives, bounds.low) in
+    omega (arith, ints, least.gives, bounds.low) in
     record {
       slopes = least.slopes;
       within = least.within;
@@ -173,13 +181,13 @@ place-low n a b p q t l h natural low high =
     by_lt_z t (pos 0)
     (λ m. let down = times_down ((a *ℤ p) +ℤ (b *ℤ q)) (n *ℤ h) t high (omega (arith, ints)) in
     let up = scaled-up n (int_min (l *ℤ t) (h *ℤ t)) (h *ℤ t) (pos 0) natural
-        (omega (arith, ints)) in
+    (omega (arith, ints)) in
     let same = times_associate n h t in
     let nothing = *ℤ_comm n (pos 0) in
     omega (arith, ints))
     (λ m. let up = times_up (n *ℤ l) ((a *ℤ p) +ℤ (b *ℤ q)) t low m in
     let more = scaled-up n (int_min (l *ℤ t) (h *ℤ t)) (l *ℤ t) (pos 0) natural
-        (omega (arith, ints)) in
+    (omega (arith, ints)) in
     let same = times_associate n l t in
     let nothing = *ℤ_comm n (pos 0) in
     omega (arith, ints))
@@ -195,12 +203,12 @@ place-high n a b p q t l h natural low high =
     by_lt_z t (pos 0)
     (λ m. let down = times_down (n *ℤ l) ((a *ℤ p) +ℤ (b *ℤ q)) t low (omega (arith, ints)) in
     let up = scaled-up n (l *ℤ t) (int_max (l *ℤ t) (h *ℤ t)) (pos 0) natural
-        (omega (arith, ints, clamps)) in
+    (omega (arith, ints, clamps)) in
     let same = times_associate n l t in
     omega (arith, ints))
     (λ m. let up = times_up ((a *ℤ p) +ℤ (b *ℤ q)) (n *ℤ h) t high m in
     let more = scaled-up n (h *ℤ t) (int_max (l *ℤ t) (h *ℤ t)) (pos 0) natural
-        (omega (arith, ints, clamps)) in
+    (omega (arith, ints, clamps)) in
     let same = times_associate n h t in
     omega (arith, ints))
 
@@ -214,10 +222,15 @@ sums-low n a b (s ∷ ss) (x ∷ xs) (y ∷ ys) (p ∷ ps) (q ∷ qs) [] natural
     omega (arith, ints, *ℤ_comm n (pos 0), *ℤ_comm a (pos 0), *ℤ_comm b (pos 0))
 sums-low n a b (s ∷ ss) (x ∷ xs) (y ∷ ys) (p ∷ ps) (q ∷ qs) (t ∷ ts) natural corners in_x in_y =
     let place = place-low n a b p q t s.0 s.1 natural
-        (corners.0.low p q in_x.0 in_y.0) (corners.0.high p q in_x.0 in_y.0) in
+    (corners.0.low p q in_x.0 in_y.0) (corners.0.high p q in_x.0 in_y.0) in
     let rest = sums-low n a b ss xs ys ps qs ts natural corners.1 in_x.1 in_y.1 in
-    omega (arith, ints, times_sum n (int_min (s.0 *ℤ t) (s.1 *ℤ t)) (least_sum ss ts),
-    times_sum a (p *ℤ t) (given ps ts), times_sum b (q *ℤ t) (given qs ts))
+    omega (
+      arith,
+      ints,
+      times_sum n (int_min (s.0 *ℤ t) (s.1 *ℤ t)) (least_sum ss ts),
+      times_sum a (p *ℤ t) (given ps ts),
+      times_sum b (q *ℤ t) (given qs ts),
+    )
 sums-low n a b [] [] [] [] (q ∷ qs) ts natural corners in_x in_y = absurd in_y
 sums-low n a b [] [] [] (p ∷ ps) qs ts natural corners in_x in_y = absurd in_x
 sums-low n a b [] [] (y ∷ ys) ps qs ts natural corners in_x in_y = absurd corners
@@ -236,10 +249,15 @@ sums-high n a b (s ∷ ss) (x ∷ xs) (y ∷ ys) (p ∷ ps) (q ∷ qs) [] natura
     omega (arith, ints, *ℤ_comm n (pos 0), *ℤ_comm a (pos 0), *ℤ_comm b (pos 0))
 sums-high n a b (s ∷ ss) (x ∷ xs) (y ∷ ys) (p ∷ ps) (q ∷ qs) (t ∷ ts) natural corners in_x in_y =
     let place = place-high n a b p q t s.0 s.1 natural
-        (corners.0.low p q in_x.0 in_y.0) (corners.0.high p q in_x.0 in_y.0) in
+    (corners.0.low p q in_x.0 in_y.0) (corners.0.high p q in_x.0 in_y.0) in
     let rest = sums-high n a b ss xs ys ps qs ts natural corners.1 in_x.1 in_y.1 in
-    omega (arith, ints, times_sum n (int_max (s.0 *ℤ t) (s.1 *ℤ t)) (greatest_sum ss ts),
-    times_sum a (p *ℤ t) (given ps ts), times_sum b (q *ℤ t) (given qs ts))
+    omega (
+      arith,
+      ints,
+      times_sum n (int_max (s.0 *ℤ t) (s.1 *ℤ t)) (greatest_sum ss ts),
+      times_sum a (p *ℤ t) (given ps ts),
+      times_sum b (q *ℤ t) (given qs ts),
+    )
 sums-high n a b [] [] [] [] (q ∷ qs) ts natural corners in_x in_y = absurd in_y
 sums-high n a b [] [] [] (p ∷ ps) qs ts natural corners in_x in_y = absurd in_x
 sums-high n a b [] [] (y ∷ ys) ps qs ts natural corners in_x in_y = absurd corners
@@ -264,16 +282,24 @@ low-kept n a b x y e f z g ss xs ys ts positive corners left right h =
     let p = below-chosen a (pos one *ℤ x) (pos one *ℤ e) xs ts left.ordered left.bounds in
     let q = below-chosen b (pos one *ℤ y) (pos one *ℤ f) ys ts right.ordered right.bounds in
     let all = sums-low n a b ss xs ys p.slopes q.slopes ts (omega (arith, ints)) corners p.within
-        q.within in
+    q.within in
     let first = p.holds in
     let second = q.holds in
     times_cancel _ _ n positive
-    (omega (arith, ints, *ℤ_comm n (least_sum ss ts),
-    *ℤ_comm n ((pos one *ℤ z) +ℤ (pos one *ℤ g)),
-    times_sum n (pos one *ℤ z) (pos one *ℤ g), times_sum n z g,
-    times_swap n (pos one) z, times_swap n (pos one) g,
-    times_swap a (pos one) x, times_swap b (pos one) y,
-    times_swap (pos (unsigned_abs a)) (pos one) e, times_swap (pos (unsigned_abs b)) (pos one) f))
+    (omega (
+      arith,
+      ints,
+      *ℤ_comm n (least_sum ss ts),
+      *ℤ_comm n ((pos one *ℤ z) +ℤ (pos one *ℤ g)),
+      times_sum n (pos one *ℤ z) (pos one *ℤ g),
+      times_sum n z g,
+      times_swap n (pos one) z,
+      times_swap n (pos one) g,
+      times_swap a (pos one) x,
+      times_swap b (pos one) y,
+      times_swap (pos (unsigned_abs a)) (pos one) e,
+      times_swap (pos (unsigned_abs b)) (pos one) f,
+    ))
 
 pub high-kept : (n a b x y e f z g : ℤ) (ss xs ys : List (ℤ × ℤ)) (ts : List ℤ) → pos 1 ≤ℤ n
     → Cornered n a b ss xs ys → Tells xs ts x e → Tells ys ts y f
@@ -285,16 +311,23 @@ high-kept n a b x y e f z g ss xs ys ts positive corners left right h =
     let p = above-chosen a (pos one *ℤ x) (pos one *ℤ e) xs ts left.ordered left.bounds in
     let q = above-chosen b (pos one *ℤ y) (pos one *ℤ f) ys ts right.ordered right.bounds in
     let all = sums-high n a b ss xs ys p.slopes q.slopes ts (omega (arith, ints)) corners p.within
-        q.within in
+    q.within in
     let first = p.holds in
     let second = q.holds in
     times_cancel _ _ n positive
-    (omega (arith, ints, *ℤ_comm n (pos one *ℤ z),
-    *ℤ_comm n (greatest_sum ss ts +ℤ (pos one *ℤ g)),
-    times_sum n (greatest_sum ss ts) (pos one *ℤ g),
-    times_swap n (pos one) z, times_swap n (pos one) g,
-    times_swap a (pos one) x, times_swap b (pos one) y,
-    times_swap (pos (unsigned_abs a)) (pos one) e, times_swap (pos (unsigned_abs b)) (pos one) f))
+    (omega (
+      arith,
+      ints,
+      *ℤ_comm n (pos one *ℤ z),
+      *ℤ_comm n (greatest_sum ss ts +ℤ (pos one *ℤ g)),
+      times_sum n (greatest_sum ss ts) (pos one *ℤ g),
+      times_swap n (pos one) z,
+      times_swap n (pos one) g,
+      times_swap a (pos one) x,
+      times_swap b (pos one) y,
+      times_swap (pos (unsigned_abs a)) (pos one) e,
+      times_swap (pos (unsigned_abs b)) (pos one) f,
+    ))
 
 -- slopes of a result are in order
 pub ordered-kept : (n a b : ℤ) (ss xs ys : List (ℤ × ℤ)) → pos 1 ≤ℤ n → Cornered n a b ss xs ys
@@ -302,9 +335,10 @@ pub ordered-kept : (n a b : ℤ) (ss xs ys : List (ℤ × ℤ)) → pos 1 ≤ℤ
 ordered-kept n a b [] [] [] positive corners left right = tt
 ordered-kept n a b (s ∷ ss) (x ∷ xs) (y ∷ ys) positive corners left right =
     let low = corners.0.low x.0 y.0 (low-within x left.0) (low-within y right.0) in
-    let high = corners.0.high x.0 y.0 (low-within x left.0) (low-within y right.0) in
-    (times_cancel s.0 s.1 n positive (omega (arith, ints, *ℤ_comm n s.0, *ℤ_comm n s.1)),
-    ordered-kept n a b ss xs ys positive corners.1 left.1 right.1)
+    let high = corners.0.high x.0 y.0 (low-within x left.0) (low-within y right.0) in (
+      times_cancel s.0 s.1 n positive (omega (arith, ints, *ℤ_comm n s.0, *ℤ_comm n s.1)),
+      ordered-kept n a b ss xs ys positive corners.1 left.1 right.1,
+    )
 ordered-kept n a b [] [] (y ∷ ys) positive corners left right = absurd corners
 ordered-kept n a b [] (x ∷ xs) ys positive corners left right = absurd corners
 ordered-kept n a b (s ∷ ss) [] ys positive corners left right = absurd corners

@@ -52,12 +52,12 @@ constant-meets : (ts : List ℤ) (v : ℤ) → Meets ts v (slope_constant v)
 constant-meets ts v = record {
   range = record { low = ≤ℤ_refl v; high = ≤ℤ_refl v };
   known = λ k e. subst (Describes ts v (v, v)) (same_Some _ k e)
-  (record {
-    centre = record { low = ≤ℤ_refl v; high = ≤ℤ_refl v };
-    error = zero-ordered;
-    ordered = (zero-ordered, (zero-ordered, (zero-ordered, (zero-ordered, tt))));
-    bounds = flat-bounds ts v;
-  });
+      (record {
+        centre = record { low = ≤ℤ_refl v; high = ≤ℤ_refl v };
+        error = zero-ordered;
+        ordered = (zero-ordered, (zero-ordered, (zero-ordered, (zero-ordered, tt))));
+        bounds = flat-bounds ts v;
+      });
 }
 
 need-is : (v u : ℤ) → plain_need v ≡ Some u → v ≡ u
