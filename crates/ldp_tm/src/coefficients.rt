@@ -3,7 +3,8 @@ ghost use Rattle.ldp_series.specs.Draft.{HasRoom, Appends};
 ghost use Rattle.ldp_tm.specs.TransverseMercator.{tangent_squared, second_power, fourth_power};
 ghost use Rattle.ldp_tm.specs.TransverseMercator.{sixth_power};
 
-use ldp_series::{Build, Memory, ONE};
+use ldp_num::ONE;
+use ldp_series::{Build, Memory};
 
 /// 61/720, -148/720 and 16/720, in units of 10^-15, rounded down: a quotient below 0 is rounded
 /// toward 0, so 1 is taken away.

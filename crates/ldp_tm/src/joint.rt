@@ -3,7 +3,8 @@ ghost use Rattle.ldp_series.specs.Draft.{HasRoom, Appends};
 ghost use Rattle.ldp_series.specs.Shape.{HasShape};
 ghost use Rattle.ldp_tm.specs.TransverseMercator.{within_domain, scale_ratio, joint_list};
 
-use ldp_series::{Build, List, Memory, ONE};
+use ldp_num::ONE;
+use ldp_series::{Build, List, Memory};
 use std::alloc::Global;
 
 /// 1/64, in units of 10^-15: the greatest square of a difference of longitudes, in radians.
