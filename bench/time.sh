@@ -2,7 +2,7 @@
 # Nanoseconds of each operation, of each run of a joint list, and of the bound of a box over 672
 # cells: the least processor time of nine programs that repeat it, less that of the same program
 # that repeats it not at all. Give how often the operations are repeated, or take 20,000,000; a list
-# is run a twentieth as often, and a box bounded a ten-thousandth as often.
+# is run a twentieth as often, in slopes a hundredth, and a box bounded a ten-thousandth as often.
 set -eu
 repeats=${1:-20000000}
 cd "$(dirname "$0")/../crates/ldp_timing"
@@ -30,6 +30,7 @@ done
 for kind in tm lambert hotine; do
   each "$kind" $((repeats / 20))
   each "$kind" $((repeats / 20)) ranges
+  each "$kind" $((repeats / 100)) slopes
 done
 for kind in tm-boxes lambert-boxes; do
   each "$kind" $((repeats / 10000))

@@ -2,6 +2,7 @@ ghost use Rattle.std.specs.Prelude.{◌≡◌, ◌≤◌, length};
 ghost use Rattle.ldp_num.specs.Steps.{most_steps};
 ghost use Rattle.ldp_timing.specs.Fitting.{Fitting};
 
+use ldp_centred::Slope;
 use ldp_num::{Bench, Fix, MOST_INPUTS, Num};
 use ldp_range::{Range, sharp};
 use ldp_series::{List, Lists, Memory};
@@ -57,6 +58,30 @@ pub fn in_ranges(alloc: Global, lists: &Lists, runs: u32) -> Result<u32, Memory>
         sharp(DESIGN[3]),
     ];
     let mut buffer = [sharp(0); MOST_INPUTS];
+    let inputs = &mut buffer[..lists.joint.inputs() as usize];
+    if !put_results(&mut bench, lists, &cell, &design, inputs) {
+        return Ok(0);
+    }
+    Ok(defined_runs(&mut bench, &lists.joint, inputs, runs))
+}
+
+/// The same in slopes, over a box of one design.
+pub fn in_slopes(alloc: Global, lists: &Lists, runs: u32) -> Result<u32, Memory>
+    requires { Fitting lists.now }
+{
+    let mut bench: Bench<Slope> = Bench::with_room(alloc, most_steps_of(lists))?;
+    let cell = [
+        Slope::constant(CELL[0]),
+        Slope::constant(CELL[1]),
+        Slope::constant(CELL[2]),
+    ];
+    let design = [
+        Slope::input(sharp(DESIGN[0]), 0),
+        Slope::input(sharp(DESIGN[1]), 1),
+        Slope::input(sharp(DESIGN[2]), 2),
+        Slope::input(sharp(DESIGN[3]), 3),
+    ];
+    let mut buffer = [Slope::constant(0); MOST_INPUTS];
     let inputs = &mut buffer[..lists.joint.inputs() as usize];
     if !put_results(&mut bench, lists, &cell, &design, inputs) {
         return Ok(0);
