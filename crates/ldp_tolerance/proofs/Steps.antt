@@ -263,7 +263,7 @@ mapped-some : {A B P : Type 0} (f : A → B) (o : Option A) (y : B) → option_m
 mapped-some f None y e k = cc
 mapped-some f (Some x) y e k = k x refl (same_Some (f x) y e)
 
-first-and-rest : {A P : Type 0} (xs : List A) (place : ℕ) (places : List ℕ) (found : List A)
+pub first-and-rest : {A P : Type 0} (xs : List A) (place : ℕ) (places : List ℕ) (found : List A)
     → at_places xs (place ∷ places) ≡ Some found
     → ((v : A) (vs : List A) → slice_get xs place ≡ Some v → at_places xs places ≡ Some vs
     → v ∷ vs ≡ found → P) → P

@@ -2,4 +2,9 @@
 //! heights, and the greatest tolerance that keeps a limit.
 #![tactic(auto)]
 
+mod both;
 pub mod laws;
+mod side;
+
+pub use both::slack;
+pub use side::{Side, Slack};
