@@ -1,6 +1,6 @@
 -- A distortion at a height between two others lies between those at both.
-use Rattle.std.proofs.Common.{◌≡◌, ℕ, Bool, true, false, ℤ, ◌≤ℤ◌, List, [], ◌∷◌, ◌++◌, map}
-use Rattle.std.proofs.Common.{inl, inr, refl, sym, ap, ◌∙◌}
+use Rattle.std.proofs.Common.{◌≡◌, ℕ, Bool, true, false, ℤ, List, [], ◌∷◌, ◌++◌, map}
+use Rattle.std.proofs.Common.{inl, refl, sym, ap, ◌∙◌}
 use Rattle.std.specs.Prelude.{Option, Some, None, IsSome, option_map, option_and_then, slice_get}
 use Rattle.std.specs.Int.Signed.{≤ℤ_refl}
 use Rattle.std.proofs.lemmas.List.{map-append, map-id}
@@ -10,7 +10,7 @@ use Rattle.ldp_num.specs.Steps.{results_of}
 use Rattle.ldp_num.specs.StepList.{StepList, value, at_places, first_result}
 use Rattle.ldp_series.specs.declared.list.Lists.{Lists}
 use Rattle.ldp_distortion.specs.Distortion.{joined, joined_in}
-use Rattle.ldp_tolerance.specs.Moves.{moves_in, move_ops, LiesBetween, Moving}
+use Rattle.ldp_tolerance.specs.Moves.{moves_in, LiesBetween, Moving}
 use Rattle.ldp_tolerance.specs.Moves.{marks, starts, finishes, middles}
 use Rattle.ldp_tolerance.specs.Heights.{cell_moves, joint_moves, MoveOnce}
 use Rattle.ldp_tolerance.specs.Laws.{AreMiddles}
@@ -138,8 +138,11 @@ joint-middles : (lists : Lists) (cell joint : List Bool) → joint_moves lists c
 joint-middles lists cell joint tells inputs ds d-is values cl ch rl rh ms ss fs e k =
     let all = map still ds ++ values in
     let at_marks : marks all ≡ map (λ place. false) lists.design.outs ++ cell =
-    rw (map-append (λ (v : Moving). v.moves) (map still ds) values,
-    marks-still lists.design inputs ds d-is, ms) refl in
+    rw (
+      map-append (λ (v : Moving). v.moves) (map still ds) values,
+      marks-still lists.design inputs ds d-is,
+      ms,
+    ) refl in
     let at_starts : starts all ≡ ds ++ cl =
     rw (map-append (λ (v : Moving). v.start) (map still ds) values, starts-still ds, ss) refl in
     let at_finishes : finishes all ≡ ds ++ ch =

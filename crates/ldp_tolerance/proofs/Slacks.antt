@@ -1,7 +1,7 @@
 -- Over every list of cells within a tolerance the worst is at most the slack.
 use Rattle.std.proofs.Common.{◌≡◌, ℕ, ◌≤◌, ◌*◌, max, Bool, true, false, ℤ, pos, neg_ℤ, nat_abs}
-use Rattle.std.proofs.Common.{◌≤ℤ◌, ◌<ℤ◌, ◌+ℤ◌, ◌-ℤ◌, ◌*ℤ◌, List, [], ◌∷◌, inl, arith, refl, ap, ◌∙◌}
-use Rattle.std.specs.Prelude.{All, Option, Some, None, IsSome, if◌then◌else◌}
+use Rattle.std.proofs.Common.{◌≤ℤ◌, ◌+ℤ◌, ◌-ℤ◌, ◌*ℤ◌, List, [], ◌∷◌, inl, arith, refl, ap, ◌∙◌}
+use Rattle.std.specs.Prelude.{Option, Some, IsSome, if◌then◌else◌}
 use Rattle.std.proofs.lemmas.Bool.Decides.{nat_tests}
 use Rattle.std.proofs.lemmas.Int.{ints}
 use Rattle.std.proofs.lemmas.List.Elements.{All-nil, All-cons, All-head, All-tail}
@@ -21,10 +21,10 @@ use Rattle.ldp_distortion.specs.declared.inputs.Inputs.{Inputs}
 use Rattle.ldp_distortion.specs.declared.worst.Worst.{Worst}
 use Rattle.ldp_distortion.specs.declared.worst.Worst.TheVariants as worsts
 use Rattle.ldp_tolerance.specs.Heights.{MoveOnce, lowered, IsNearby, AreWithin}
-use Rattle.ldp_tolerance.specs.Slack.{is_second, slack_from, slack_over, IsAtMost, HasWorst}
-use Rattle.ldp_tolerance.specs.Slack.{IsGreatest, IsGreatestOf, SlackHolds}
+use Rattle.ldp_tolerance.specs.Slack.{is_second, slack_from, slack_over, IsAtMost}
+use Rattle.ldp_tolerance.specs.Slack.{IsGreatestOf}
 use Rattle.ldp_tolerance.specs.declared.side.Side.TheVariants.{Low, High}
-use Rattle.ldp_tolerance.specs.declared.side.Slack.TheVariants.{Is, Unusable}
+use Rattle.ldp_tolerance.specs.declared.side.Slack.TheVariants.{Is}
 use Rattle.ldp_tolerance.specs.declared.side.Slack.{Slack}
 use Rattle.std.proofs.lemmas.Simd.{map-map}
 use Rattle.ldp_num.specs.StepList.{value}
@@ -104,29 +104,31 @@ all-nearby lists once at t (cell ∷ cells) (other ∷ others) near low high =
 
 raised-within : (t : ℕ) (cells : List Cell) → AreWithin t cells (raised (pos t) cells)
 raised-within t [] = tt
-raised-within t (cell ∷ cells) =
-    (record {
-      row = refl;
-      col = refl;
-      x = refl;
-      y = refl;
-      low = omega (arith, ints);
-      high = omega (arith, ints);
-    },
-    raised-within t cells)
+raised-within t (cell ∷ cells) = (
+  record {
+    row = refl;
+    col = refl;
+    x = refl;
+    y = refl;
+    low = omega (arith, ints);
+    high = omega (arith, ints);
+  },
+  raised-within t cells,
+)
 
 lowered-within : (t : ℕ) (cells : List Cell) → AreWithin t cells (lowered t cells)
 lowered-within t [] = tt
-lowered-within t (cell ∷ cells) =
-    (record {
-      row = refl;
-      col = refl;
-      x = refl;
-      y = refl;
-      low = omega (arith, ints);
-      high = omega (arith, ints);
-    },
-    lowered-within t cells)
+lowered-within t (cell ∷ cells) = (
+  record {
+    row = refl;
+    col = refl;
+    x = refl;
+    y = refl;
+    low = omega (arith, ints);
+    high = omega (arith, ints);
+  },
+  lowered-within t cells,
+)
 
 both-below : (found low high : ℕ) (v w n : ℤ) → pos low ≡ v → pos high ≡ w → v ≤ℤ n → w ≤ℤ n
     → found ≤ max low high → pos found ≤ℤ n
@@ -153,13 +155,16 @@ second-above v w i j e = grind (arith, ints, nat_tests)
 first-above : (v w : ℤ) (i j : ℕ) → is_second v i w j ≡ false → w ≤ℤ v
 first-above v w i j e = grind (arith, ints, nat_tests)
 
-pub slack-greatest : SlackHolds
+pub slack-greatest : (lists : Lists) (at : Inputs) (cells : List Cell) (t : ℕ) → MoveOnce lists
+    → IsGreatestOf lists at cells t (slack_over lists at cells t)
 unfolding slack_over
 slack-greatest lists at cells t once = by (worst_of ls) (worst_of hs) refl refl where
   ls : List (Option ℤ)
   ls = distortions lists at (lowered t cells)
+
   hs : List (Option ℤ)
   hs = distortions lists at (raised (pos t) cells)
+
   of_two : (v w : ℤ) (i j : ℕ) (second : Bool) → is_second v i w j ≡ second
       → worst_of ls ≡ worsts.Is v i → worst_of hs ≡ worsts.Is w j
       → IsGreatestOf lists at cells t (if second then Is w j High else Is v i Low)
@@ -177,6 +182,7 @@ slack-greatest lists at cells t once = by (worst_of ls) (worst_of hs) refl refl 
     within = lowered-within t cells;
     reached = has-worst (worst_of ls) v i e;
   }
+
   by : (low high : Worst) → worst_of ls ≡ low → worst_of hs ≡ high
       → IsGreatestOf lists at cells t (slack_from low high)
   by (worsts.Is v i) (worsts.Is w j) e k =

@@ -1,5 +1,5 @@
 -- One step over values that move, and all steps of a list.
-use Rattle.std.proofs.Common.{◌≡◌, ℕ, Bool, true, false, ℤ, ◌≤ℤ◌, List, [], ◌∷◌, ◌++◌, map}
+use Rattle.std.proofs.Common.{◌≡◌, ℕ, Bool, true, false, ℤ, ◌≤ℤ◌, List, [], ◌∷◌, ◌++◌}
 use Rattle.std.proofs.Common.{inl, inr}
 use Rattle.std.proofs.Common.{refl, sym, ap, subst, ◌∙◌, arith}
 use Rattle.std.specs.Prelude.{Option, Some, None, option_map, option_and_then, slice_get}
@@ -10,7 +10,7 @@ use Rattle.std.proofs.lemmas.Option.{slice_get-map, option_and_then_some, same_S
 use Rattle.ldp_num.specs.declared.step.Step.{Step}
 use Rattle.ldp_num.specs.declared.step.Step.TheVariants.{Const, Input, Add, Sub, Mul, Div, Sq, Sqrt}
 use Rattle.ldp_num.specs.declared.step.Step.TheVariants.{Need}
-use Rattle.ldp_num.specs.Written.{Ops, number_ops}
+use Rattle.ldp_num.specs.Written.{number_ops}
 use Rattle.ldp_num.specs.Steps.{at_one, at_two, step_value, results_from, results_of}
 use Rattle.ldp_num.specs.StepList.{at_places}
 use Rattle.ldp_tolerance.specs.Moves.{either_moves, square_moves, move_ops, LiesBetween, Moving}

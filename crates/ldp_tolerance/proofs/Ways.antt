@@ -1,12 +1,11 @@
 -- Each operation along one operand: its result lies between those at both ends.
-use Rattle.std.proofs.Common.{◌≡◌, ℤ, ◌≤ℤ◌, List, [], ◌∷◌, inl, inr, refl, arith}
+use Rattle.std.proofs.Common.{◌≡◌, ℤ, ◌≤ℤ◌, [], ◌∷◌, inl, inr, refl, arith}
 use Rattle.std.specs.Prelude.{Option, Some}
 use Rattle.std.specs.Int.{int_min, int_max}
 use Rattle.std.specs.Int.Signed.{≤ℤ_refl}
 use Rattle.std.proofs.lemmas.Int.{ints, clamps}
 use Rattle.ldp_num.specs.Plain.{plain_add, plain_sub, plain_mul, plain_div, plain_sqrt, plain_need}
-use Rattle.ldp_num.specs.Ranges.{ends, hull_of, pair_add, pair_sub, pair_mul, pair_div, pair_sqrt}
-use Rattle.ldp_num.specs.Ranges.{pair_need}
+use Rattle.ldp_num.specs.Ranges.{hull_of}
 use Rattle.ldp_range.specs.Range.{LiesIn}
 use Rattle.ldp_range.specs.Related.{Reaches}
 use Rattle.ldp_range.proofs.Inclusion.{numbers-lie-in}

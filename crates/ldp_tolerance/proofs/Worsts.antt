@@ -2,7 +2,7 @@
 use Rattle.std.proofs.Common.{◌≡◌, ℕ, suc, ◌+◌, ◌≤◌, max, Bool, true, false, cond, length}
 use Rattle.std.proofs.Common.{ℤ, pos, nat_abs, ◌≤ℤ◌, List, [], ◌∷◌, inl, inr}
 use Rattle.std.proofs.Common.{arith, refl, sym, ap, ◌∙◌}
-use Rattle.std.specs.Prelude.{All, Option, Some, None, IsSome, option_map, nat_lt, position}
+use Rattle.std.specs.Prelude.{Option, Some, None, IsSome, option_map, nat_lt, position}
 use Rattle.std.specs.Option.{is_none}
 use Rattle.std.specs.List.{position_or_len}
 use Rattle.std.proofs.lemmas.Bool.{lt-ltb}

@@ -1,5 +1,5 @@
 -- Lists of a projection along which the height of a cell moves, and cells whose heights differ.
-use Rattle.std.specs.Prelude.{◌≡◌, ◌≤ℤ◌, ◌+ℤ◌, ◌-ℤ◌, ℕ, ℤ, pos, neg_ℤ, Bool, true, false}
+use Rattle.std.specs.Prelude.{◌≡◌, ◌≤ℤ◌, ◌+ℤ◌, ◌-ℤ◌, ℕ, pos, neg_ℤ, Bool, true, false}
 use Rattle.std.specs.Prelude.{List, [], ◌∷◌, ◌++◌, map, Option, IsSome, option_and_then}
 use Rattle.ldp_series.specs.declared.list.Lists.{Lists}
 use Rattle.ldp_range.specs.Related.{Pairwise}

@@ -10,7 +10,7 @@ use Rattle.ldp_distortion.specs.Worst.{worst_of}
 use Rattle.ldp_distortion.specs.declared.inputs.Inputs.{Inputs}
 use Rattle.ldp_distortion.specs.declared.worst.Worst.{Worst}
 use Rattle.ldp_distortion.specs.declared.worst.Worst.TheVariants as worsts
-use Rattle.ldp_tolerance.specs.Heights.{MoveOnce, lowered, AreWithin}
+use Rattle.ldp_tolerance.specs.Heights.{lowered, AreWithin}
 use Rattle.ldp_tolerance.specs.declared.side.Side.TheVariants.{Low, High}
 use Rattle.ldp_tolerance.specs.declared.side.Slack.{Slack}
 use Rattle.ldp_tolerance.specs.declared.side.Slack.TheVariants.{Is, Unusable}
@@ -62,8 +62,3 @@ pub record IsGreatest (lists : Lists) (at : Inputs) (cells : List Cell) (t : ℕ
 abbrev pub IsGreatestOf : Lists → Inputs → List Cell → ℕ → Slack → Type 0
 IsGreatestOf lists at cells t (Is value cell side) = IsGreatest lists at cells t value
 IsGreatestOf lists at cells t (Unusable cell) = Unit {0}
-
--- of every list of cells, where no step of the lists has two operands that move with the height
-abbrev pub SlackHolds : Type 0
-SlackHolds = (lists : Lists) (at : Inputs) (cells : List Cell) (t : ℕ) → MoveOnce lists
-    → IsGreatestOf lists at cells t (slack_over lists at cells t)

@@ -39,11 +39,25 @@ fn greater(low: Worst, high: Worst) -> Slack
     ensures { result ≡ slack_from low high }
 {
     match (low, high) {
-        (Worst::Is { value, cell }, Worst::Is { value: other, cell: at }) => {
+        (
+            Worst::Is { value, cell },
+            Worst::Is {
+                value: other,
+                cell: at,
+            },
+        ) => {
             if other > value || (other >= value && at < cell) {
-                Slack::Is { value: other, cell: at, side: Side::High }
+                Slack::Is {
+                    value: other,
+                    cell: at,
+                    side: Side::High,
+                }
             } else {
-                Slack::Is { value, cell, side: Side::Low }
+                Slack::Is {
+                    value,
+                    cell,
+                    side: Side::Low,
+                }
             }
         }
         (Worst::Is { .. }, Worst::Unusable { cell }) => Slack::Unusable { cell },

@@ -1,5 +1,5 @@
-//! Uncertain heights: the worst of a design over every list of cells within a tolerance of the
-//! heights, and the greatest tolerance that keeps a limit.
+//! Uncertain heights: the worst of a design over every list of cells whose heights are within a
+//! tolerance.
 #![tactic(auto)]
 
 mod both;
