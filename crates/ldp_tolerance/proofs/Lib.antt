@@ -1,0 +1,6 @@
+mod Ways
+mod Steps
+mod Projections
+mod Distortions
+mod Worsts
+mod Slacks
